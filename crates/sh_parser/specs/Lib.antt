@@ -1,0 +1,4 @@
+pub mod Grammar
+pub mod Lex
+pub mod Lexes
+pub mod Spells
