@@ -1,13 +1,13 @@
-// A library with one function.
+//! The outside of the shell: hosts, sources and sinks, and those in memory.
 #![tactic(auto)]
 
-ghost use Rattle.std.specs.Prelude.{◌≡◌};
-ghost use Rattle.hs_outside.specs.Echo.{echo_of};
+mod memory;
+mod outside;
+mod sending;
 
-// The `ensures` clause is the contract: what `echo` returns is `echo_of` of its argument, a definition
-// in `specs/Echo.antt`, which a caller's clause can cite too.
-pub fn echo(x: usize) -> usize
-    ensures { result ≡ echo_of x }
-{
-    x
-}
+pub use memory::{Calls, MemoryHost, MemorySink, MemorySource};
+pub use outside::{Failed, Host, Sink, Source};
+pub use sending::send;
+
+#[cfg(test)]
+mod tests;
