@@ -1,6 +1,6 @@
 //! The state of the shell between two effects.
 
-ghost use Rattle.std.specs.Prelude.{◌≡◌, ◌↔◌, ◌≤◌, ◌^◌, OnOk, OnErr, Some};
+ghost use Rattle.std.specs.Prelude.{◌≡◌, ◌↔◌, ◌≤◌, ◌^◌, OnOk, OnErr, Some, None};
 ghost use Rattle.hs_world.specs.World.{Apply, new_world, passed};
 
 use crate::effect::Effect;
@@ -76,9 +76,10 @@ impl World {
     }
 
     /// The limit that the effect would pass here.
-    pub fn fits(&self, _effect: &Effect) -> Option<Limit>
-        ensures { result ≡ passed _effect.now self.now }
+    pub fn fits(&self, effect: &Effect) -> Option<Limit>
+        ensures { result ≡ passed effect.now self.now }
     {
+        let _ = effect;
         if self.count < MOST_EFFECTS {
             None
         } else {
@@ -89,6 +90,7 @@ impl World {
     /// Applies one effect. Refused, the world stays.
     pub fn apply(&mut self, effect: &Effect) -> Result<(), WorldErr>
         ensures ok { OnOk result (self.new ≡ Apply effect.now self.old) }
+        ensures fits { OnOk result (passed effect.now self.old ≡ None) }
         ensures err { OnErr result (self.new ≡ self.old) }
         ensures full { (l : Limit) → (result ≡ Err (WorldErr.Full l) ↔ (passed effect.now self.old ≡ Some l)) }
     {

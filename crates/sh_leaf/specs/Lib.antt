@@ -1,0 +1,3 @@
+pub mod Do
+pub mod Leaf
+pub mod Run

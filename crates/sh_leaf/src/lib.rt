@@ -1,13 +1,11 @@
-// A library with one function.
+//! What a script means, and what one leaf of it does.
 #![tactic(auto)]
 
-ghost use Rattle.std.specs.Prelude.{◌≡◌};
-ghost use Rattle.sh_leaf.specs.Echo.{echo_of};
+mod leaf;
+mod spent;
 
-// The `ensures` clause is the contract: what `echo` returns is `echo_of` of its argument, a definition
-// in `specs/Echo.antt`, which a caller's clause can cite too.
-pub fn echo(x: usize) -> usize
-    ensures { result ≡ echo_of x }
-{
-    x
-}
+pub use leaf::echo_effects;
+pub use spent::SpentKind;
+
+#[cfg(test)]
+mod tests;

@@ -1,0 +1,24 @@
+-- The statuses of a run, and the lines that say how it ended.
+use Rattle.std.specs.Prelude.{ℕ, List, [], ◌∷◌, ◌++◌, codes}
+use Rattle.sh_leaf.specs.declared.spent.SpentKind.{SpentKind}
+use Rattle.sh_leaf.specs.declared.spent.SpentKind.TheVariants.{Turns, Bytes}
+use Rattle.hs_main.specs.declared.ending.Ending.{Ending}
+use Rattle.hs_main.specs.declared.ending.Ending.TheVariants.{Done, Unbuilt, OutFault, Spent, NoMemory}
+
+abbrev pub status_of : Ending → ℕ
+status_of (Done status) = status
+status_of OutFault = 121
+status_of Unbuilt = 123
+status_of (Spent kind) = 124
+status_of NoMemory = 125
+
+abbrev pub kind_name : SpentKind → List ℕ
+kind_name Turns = codes "turns"
+kind_name Bytes = codes "bytes"
+
+abbrev pub line_of : Ending → List ℕ
+line_of (Done status) = []
+line_of OutFault = codes "hs: output failed" ++ 10 ∷ []
+line_of Unbuilt = codes "hs: not built yet" ++ 10 ∷ []
+line_of (Spent kind) = codes "hs: budget spent: " ++ kind_name kind ++ 10 ∷ []
+line_of NoMemory = codes "hs: out of memory" ++ 10 ∷ []

@@ -1,0 +1,79 @@
+-- What a run of a script comes to, in the terms of its serial meaning.
+use Rattle.std.specs.Prelude.{◌≡◌, ◌⊎◌, ℕ, ◌-◌, List, Result, Ok, Err}
+use Rattle.hs_world.specs.declared.effect.Effect.{Effect}
+use Rattle.hs_world.specs.World.{WorldData, Applied}
+use Rattle.sh_parser.specs.declared.tree.Script.{Script}
+use Rattle.sh_leaf.specs.declared.spent.SpentKind.{SpentKind}
+use Rattle.sh_leaf.specs.Do.{Status, Ran_out, Gives, Stops, Do}
+use Rattle.sh_leaf.specs.Run.{State, Got, Gave, Ends, state_of, Final, whole_run, Row, Serial}
+use Rattle.sh_leaf.specs.Run as run
+use Rattle.hs_main.specs.declared.commit.Stop.{Stop}
+use Rattle.hs_main.specs.declared.commit.Stop.TheVariants as stop
+use Rattle.hs_main.specs.declared.ending.Ending.{Ending}
+use Rattle.hs_main.specs.declared.ending.Ending.TheVariants as ending
+use Rattle.hs_main.specs.declared.ending.Report.{Report}
+use Rattle.hs_main.specs.Commit.{Streams, IsCommitted, IsFront, IsFault, IsWant, Commits}
+
+-- ---- the public meaning
+
+-- The run's first effects, these, are committed, but for what a failing write left unsent.
+pub record IsStopped (done : List Effect) (row : Row) (w : WorldData) (report : Report) (holds : WorldData → Type 0) : Type 0 where
+  pub front : IsFront done row.effects
+  pub count : report.count ≡ (Applied done w).count
+  pub state : holds (Applied done w)
+
+-- All effects of the run are committed.
+pub record IsWhole (row : Row) (w : WorldData) (report : Report) (old new : Streams) : Type 0 where
+  pub committed : IsCommitted row.effects w (Applied row.effects w) old new
+  pub count : report.count ≡ (Applied row.effects w).count
+
+-- the leaves that were done and the turns that were taken, where the script ran to its end
+abbrev pub IsTold : Final → ℕ → Report → Type 0
+IsTold final turns report = (report.head ≡ final.state.leaves) × (report.turns ≡ turns - final.state.turns)
+
+-- How a run of the script from this world ends, and what it leaves: all that the serial meaning does, or its first
+-- effects up to a write that failed or to want of memory. `out` and `err` say that the streams' counts of faults rose.
+abbrev pub Runs : (out err : Type 0) → Script → WorldData → ℕ → Streams → Streams → Ending → Report → Type 0
+Runs out err script w turns old new (ending.Done status) report =
+    (run.Done status ≡ (Serial script w turns).ending) × IsWhole (Serial script w turns) w report old new × IsTold (whole_run script w turns) turns report
+Runs out err script w turns old new (ending.Spent kind) report =
+    (run.Stopped (Ran_out kind) ≡ (Serial script w turns).ending) × IsWhole (Serial script w turns) w report old new
+Runs out err script w turns old new ending.OutFault report =
+    (done : List Effect) × IsStopped done (Serial script w turns) w report (λ w'. IsFault out err done w w' old new)
+Runs out err script w turns old new ending.NoMemory report =
+    (done : List Effect) × IsStopped done (Serial script w turns) w report (λ w'. IsWant done w w' old new)
+Runs out err script w turns old new ending.Unbuilt report = ⊥
+
+-- ---- its parts
+
+-- One leaf: it came to a status, or the run stopped in its effects, or it was spent.
+abbrev pub LeafRuns : (out err : Type 0) → Script → ℕ → (w w' : WorldData) → (turns turns' : ℕ) → Streams → Streams → Result ℕ Stop → Type 0
+LeafRuns out err script k w w' turns turns' old new (Ok status) =
+    ((Do script k w turns).came ≡ Gives (Status status)) × IsCommitted (Do script k w turns).effects w w' old new × (turns' ≡ turns - (Do script k w turns).turns)
+LeafRuns out err script k w w' turns turns' old new (Err why) =
+    Commits out err (Do script k w turns).effects w w' old new (Err why)
+    ⊎ ((kind : SpentKind) × (why ≡ stop.Spent kind) × ((Do script k w turns).came ≡ Stops (Ran_out kind)) × IsCommitted (Do script k w turns).effects w w' old new)
+
+-- A part of the run: it came to a status in a state whose effects are all committed, or it stopped.
+pub record Came (status : ℕ) (got : Got) (w w' : WorldData) (turns' head : ℕ) (old new : Streams) : Type 0 where
+  pub state : State
+  pub gave : got ≡ Gave (Status status) state
+  pub committed : IsCommitted state.effects w w' old new
+  pub turns : turns' ≡ state.turns
+  pub leaves : head ≡ state.leaves
+
+pub record IsSpent (stopped : Stop) (got : Got) (w w' : WorldData) (old new : Streams) : Type 0 where
+  pub kind : SpentKind
+  pub state : State
+  pub why : stopped ≡ stop.Spent kind
+  pub ends : got ≡ Ends (Ran_out kind) state
+  pub committed : IsCommitted state.effects w w' old new
+
+abbrev pub GotRuns : (out err : Type 0) → Got → (w w' : WorldData) → (turns' head : ℕ) → Streams → Streams → Result ℕ Stop → Type 0
+GotRuns out err got w w' turns' head old new (Ok status) = Came status got w w' turns' head old new
+GotRuns out err got w w' turns' head old new (Err why) = Commits out err (state_of got).effects w w' old new (Err why) ⊎ IsSpent why got w w' old new
+
+abbrev pub ending_of : Stop → Ending
+ending_of (stop.Spent kind) = ending.Spent kind
+ending_of stop.OutFault = ending.OutFault
+ending_of stop.NoMemory = ending.NoMemory

@@ -1,0 +1,88 @@
+//! Committing effects: each is applied to the world first, and then written through to the streams.
+
+ghost use Rattle.std.specs.Prelude.{◌≡◌, ◌≤◌, [], ◌∷◌};
+ghost use Rattle.hs_world.specs.World.{WorldData};
+ghost use Rattle.hs_outside.specs.Causes.{Rose};
+ghost use Rattle.sh_leaf.specs.Run.{kind_of};
+ghost use Rattle.hs_main.specs.Commit.{Commits, Streams};
+ghost use Rattle.hs_main.specs.Through.{Writes};
+
+use hs_outside::{Failed, Sink, send};
+use hs_world::{Effect, Fd, Limit, World, WorldErr};
+use sh_leaf::SpentKind;
+
+/// Why a run stopped in the middle.
+#[derive(Clone, Copy, Debug, PartialEq, Eq)]
+pub enum Stop {
+    /// An effect passes a limit.
+    Spent(SpentKind),
+    OutFault,
+    NoMemory,
+}
+
+fn kind_of(limit: Limit) -> SpentKind
+    ensures { result ≡ kind_of limit }
+{
+    match limit {
+        Limit::Bytes => SpentKind::Bytes,
+    }
+}
+
+/// Writes what an effect sends to the streams.
+fn write_through<O: Sink, E: Sink>(effect: &Effect, out: &mut O, err: &mut E) -> Result<(), Failed>
+    ensures writes { (w : WorldData) → Writes (Rose (O.faults out.old) (O.faults out.new)) (Rose (E.faults err.old) (E.faults err.new)) effect.now w
+        (record { out = O.written out.old; err = E.written err.old }) (record { out = O.written out.new; err = E.written err.new }) result }
+    ensures out_later { O.faults out.old ≤ O.faults out.new }
+    ensures err_later { E.faults err.old ≤ E.faults err.new }
+{
+    match effect {
+        Effect::Emit(Fd::One, bytes) => send(out, bytes.as_slice()),
+        Effect::Emit(Fd::Two, bytes) => send(err, bytes.as_slice()),
+        Effect::SetStatus(_) => Ok(()),
+    }
+}
+
+/// Commits one effect.
+fn commit<O: Sink, E: Sink>(
+    world: &mut World,
+    effect: &Effect,
+    out: &mut O,
+    err: &mut E,
+) -> Result<(), Stop>
+    ensures commits { Commits (Rose (O.faults out.old) (O.faults out.new)) (Rose (E.faults err.old) (E.faults err.new)) (effect.now ∷ []) world.old world.new
+        (record { out = O.written out.old; err = E.written err.old }) (record { out = O.written out.new; err = E.written err.new }) result }
+    ensures out_later { O.faults out.old ≤ O.faults out.new }
+    ensures err_later { E.faults err.old ≤ E.faults err.new }
+{
+    match world.apply(effect) {
+        Ok(()) => {}
+        Err(WorldErr::Full(limit)) => return Err(Stop::Spent(kind_of(limit))),
+        Err(WorldErr::NoMemory) => return Err(Stop::NoMemory),
+    }
+    match write_through(effect, out, err) {
+        Ok(()) => Ok(()),
+        Err(Failed::Fault) => Err(Stop::OutFault),
+        Err(Failed::NoMemory) => Err(Stop::NoMemory),
+    }
+}
+
+/// Commits effects one after another, up to the first that cannot be.
+pub fn commit_all<O: Sink, E: Sink>(
+    world: &mut World,
+    effects: &[Effect],
+    out: &mut O,
+    err: &mut E,
+) -> Result<(), Stop>
+    ensures commits { Commits (Rose (O.faults out.old) (O.faults out.new)) (Rose (E.faults err.old) (E.faults err.new)) effects.now world.old world.new
+        (record { out = O.written out.old; err = E.written err.old }) (record { out = O.written out.new; err = E.written err.new }) result }
+    ensures out_later { O.faults out.old ≤ O.faults out.new }
+    ensures err_later { E.faults err.old ≤ E.faults err.new }
+{
+    for effect in effects {
+        match commit(world, effect, out, err) {
+            Ok(()) => {}
+            Err(stop) => return Err(stop),
+        }
+    }
+    Ok(())
+}

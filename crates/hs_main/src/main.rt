@@ -1,0 +1,8 @@
+//! The shell hS.
+#![tactic(auto)]
+
+mod commit;
+mod ending;
+mod run;
+
+fn main() {}

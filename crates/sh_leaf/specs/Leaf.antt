@@ -1,0 +1,53 @@
+-- What a simple command does (POSIX.1-2017, XCU 2.9.1). `echo` is the one command that is built: it is the name of each.
+use Rattle.std.specs.Prelude.{ℕ, List, [], ◌∷◌, ◌++◌, Option, Some, None}
+use Rattle.hs_world.specs.declared.effect.Effect.{Effect}
+use Rattle.hs_world.specs.declared.effect.Effect.TheVariants.{Emit, SetStatus}
+use Rattle.hs_world.specs.declared.effect.Fd.TheVariants.{One}
+use Rattle.sh_parser.specs.declared.tree.Part.{Part}
+use Rattle.sh_parser.specs.declared.tree.Part.TheVariants.{Plain, Single}
+use Rattle.sh_parser.specs.declared.tree.Word.{Word}
+use Rattle.sh_parser.specs.declared.tree.Command.{Command}
+use Rattle.sh_parser.specs.declared.tree.Command.TheVariants.{Simple}
+use Rattle.sh_parser.specs.declared.tree.Pipeline.{Pipeline}
+
+-- ---- quote removal (XCU 2.6.7)
+
+abbrev pub part_bytes : Part → List ℕ
+part_bytes (Plain bytes) = bytes
+part_bytes (Single bytes) = bytes
+
+abbrev pub bytes_of : List Part → List ℕ
+bytes_of [] = []
+bytes_of (p ∷ ps) = part_bytes p ++ bytes_of ps
+
+abbrev pub field : Word → List ℕ
+field word = bytes_of word.parts
+
+abbrev pub fields : List Word → List (List ℕ)
+fields [] = []
+fields (w ∷ ws) = field w ∷ fields ws
+
+-- ---- echo (XCU, echo)
+
+-- each with a space before it
+abbrev pub spaced : List (List ℕ) → List ℕ
+spaced [] = []
+spaced (x ∷ xs) = 32 ∷ x ++ spaced xs
+
+-- the arguments, separated by spaces, and a newline
+abbrev pub echo_line : List (List ℕ) → List ℕ
+echo_line [] = 10 ∷ []
+echo_line (x ∷ xs) = x ++ spaced xs ++ 10 ∷ []
+
+-- the effects of a simple command: the name comes first, then its arguments
+abbrev pub effects_of : List (List ℕ) → List Effect
+effects_of [] = SetStatus 0 ∷ []
+effects_of (name ∷ args) = Emit One (echo_line args) ∷ SetStatus 0 ∷ []
+
+abbrev pub command_effects : List Command → List Effect
+command_effects [] = effects_of []
+command_effects (Simple words ∷ cs) = effects_of (fields words)
+
+abbrev pub leaf_effects : Option Pipeline → List Effect
+leaf_effects None = effects_of []
+leaf_effects (Some pipeline) = command_effects pipeline.stages
