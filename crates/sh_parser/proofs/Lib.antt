@@ -1,0 +1,5 @@
+pub mod Complete
+pub mod Numbers
+pub mod Progress
+pub mod Sound
+pub mod Text
