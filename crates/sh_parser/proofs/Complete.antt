@@ -1,7 +1,6 @@
 -- What the grammar derives, the machine reads.
 use Rattle.std.proofs.Common.{◌≡◌, ℕ, List, [], ◌∷◌, ◌++◌, Option, Some, None, refl, ◌∙◌}
 use Rattle.sh_parser.specs.declared.tree.Part.{Part}
-use Rattle.sh_parser.specs.declared.tree.Part.TheVariants as part
 use Rattle.sh_parser.specs.declared.tree.Word.{Word}
 use Rattle.sh_parser.specs.declared.tree.AndOr.{AndOr}
 use Rattle.sh_parser.specs.declared.tree.Script.{Script}

@@ -1,4 +1,5 @@
 pub mod Complete
+pub mod Examples
 pub mod Numbers
 pub mod Progress
 pub mod Sound

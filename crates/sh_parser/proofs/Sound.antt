@@ -1,5 +1,5 @@
 -- What the machine reads, the grammar derives: what a state still wants is said by the grammar.
-use Rattle.std.proofs.Common.{◌≡◌, Bool, true, false, IsTrue, ℕ, List, [], ◌∷◌, ◌++◌, Option, Some, None, refl, sym, subst}
+use Rattle.std.proofs.Common.{◌≡◌, Bool, true, false, ℕ, List, [], ◌∷◌, ◌++◌, Option, Some, None, refl, sym, subst}
 use Rattle.std.specs.Prelude.{option_and_then, if◌then◌else◌}
 use Rattle.std.specs.Str.{bytes_eq}
 use Rattle.std.proofs.lemmas.Slice.Eq.{bytes_eq-Decides}
@@ -11,13 +11,12 @@ use Rattle.sh_parser.specs.declared.tree.Script.{Script}
 use Rattle.sh_parser.specs.declared.token.Token.{Token}
 use Rattle.sh_parser.specs.declared.token.Token.TheVariants as token
 use Rattle.sh_parser.specs.declared.token.Op.TheVariants as op
-use Rattle.sh_parser.specs.declared.token.Bit.{Bit}
 use Rattle.sh_parser.specs.declared.token.Bit.TheVariants as bit
 use Rattle.sh_parser.specs.declared.state.Now.{Now}
 use Rattle.sh_parser.specs.declared.state.Now.TheVariants as now
 use Rattle.sh_parser.specs.Grammar as g
 use Rattle.sh_parser.specs.Grammar.{NotEmpty, Newlines, Separator, InWord, Words, OneCommand, ListRest, MayBeList, Parses, and_or, word, next_leaf, begin_list, begin_leaf, end_list, end_simple, echo_name, no_script}
-use Rattle.sh_parser.specs.Machine.{State, at, if_any, name, begin, named, words, in_word, step_now, accept_now, run, start}
+use Rattle.sh_parser.specs.Machine.{State, at, if_any, begin, named, words, in_word, step_now, accept_now, run, start}
 
 -- the list is complete with `is`, and the text ends
 data Finishes : List AndOr → Script → List Token → Script → Type 0 where

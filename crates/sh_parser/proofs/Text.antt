@@ -1,5 +1,5 @@
 -- From tokens to bytes.
-use Rattle.std.proofs.Common.{◌≡◌, ℕ, ◌+◌, ◌<◌, ◌≤◌, List, [], ◌∷◌, ◌++◌, length, Option, Some, None, Ok, Err, refl, sym, ap, subst, ◌∙◌, arith, length-append}
+use Rattle.std.proofs.Common.{◌≡◌, ℕ, ◌≤◌, List, [], ◌∷◌, length, Option, Some, None, Ok, Err, refl, sym, ap, subst, ◌∙◌}
 use Rattle.std.specs.Prelude.{option_and_then}
 use Rattle.sh_parser.specs.declared.tree.Script.{Script}
 use Rattle.sh_parser.specs.declared.token.Token.{Token}
@@ -7,10 +7,10 @@ use Rattle.sh_parser.specs.declared.token.Mode.{Mode}
 use Rattle.sh_parser.specs.declared.token.Mode.TheVariants as mode
 use Rattle.sh_parser.specs.declared.state.Now.{Now}
 use Rattle.sh_parser.specs.declared.reading.ParseErr.TheVariants as err
-use Rattle.sh_parser.specs.Lex.{Lexed, lex, got, done, bad}
+use Rattle.sh_parser.specs.Lex.{lex, got, done, bad}
 use Rattle.sh_parser.specs.Lexes.{Lexes, mode_after}
 use Rattle.sh_parser.specs.Machine.{State, at, step_now, accept_now, run, start}
-use Rattle.sh_parser.specs.Spells.{Spells, IsScriptOf, IsBuilt, Answers, longest}
+use Rattle.sh_parser.specs.Spells.{Spells, Answers, longest}
 use Rattle.sh_parser.proofs.Complete.{complete}
 use Rattle.sh_parser.proofs.Sound.{sound}
 
@@ -35,6 +35,15 @@ some-of (Some st) ts all e = (st, refl, e)
 
 same-token : {t u : Token} {r q : List ℕ} → got t r ≡ got u q → (t ≡ u) × (r ≡ q)
 same-token e = (cc, cc)
+
+-- the tokens of a text of which the first token is known
+pub lexes-next : (m : Mode) (text : List ℕ) (t : Token) (after : List ℕ) → lex m text ≡ got t after → (ts : List Token) → Lexes m text ts →
+    (us : List Token) × Lexes (mode_after t) after us
+lexes-next m text t after e [] x = let wrong : got t after ≡ done = sym e ∙ x in absurd cc
+lexes-next m text t after e (u ∷ us) x =
+    let same = same-token (sym e ∙ x.1) in
+    let x' = subst (λ (q : List ℕ). Lexes (mode_after u) q us) (sym same.1) x.2 in
+    (us, subst (λ (q : Token). Lexes (mode_after q) after us) (sym same.0) x')
 
 -- the tokens after a token that is known
 after-token : (m : Mode) (left : List ℕ) (n : Now) (s : Script) (t : Token) (after : List ℕ) (n' : Now) (s' all : Script) → lex m left ≡ got t after →
@@ -78,13 +87,16 @@ ended-led m left n s all e (u ∷ us) x g = let wrong : got u x.0 ≡ done = sym
 
 pub known-ok : (text : List ℕ) (m : Mode) (left : List ℕ) (n : Now) (s all : Script) → length text ≤ longest → Known text m left n s →
     lex m left ≡ done → accept_now n s ≡ Some all → Answers (Ok all) text
-known-ok text m left n s all short k e ok = (short, record {
-  spelled = leads-spelled text all (k.spelled all (record { tokens = []; lexed = e; led = ok }));
-  only = λ other p.
-      let g = k.led other (spelled-leads text other p) in
-      let two : Some other ≡ Some all = sym (ended-led m left n s other e g.tokens g.lexed g.led) ∙ ok in
-      cc;
-})
+known-ok text m left n s all short k e ok = (
+  short,
+  record {
+    spelled = leads-spelled text all (k.spelled all (record { tokens = []; lexed = e; led = ok }));
+    only = λ other p.
+        let g = k.led other (spelled-leads text other p) in
+        let two : Some other ≡ Some all = sym (ended-led m left n s other e g.tokens g.lexed g.led) ∙ ok in
+        cc;
+  },
+)
 
 -- no script, where none is led to
 pub known-none : (text : List ℕ) (m : Mode) (left : List ℕ) (n : Now) (s : Script) → Known text m left n s →
@@ -97,7 +109,7 @@ known-unended text m left n s k e no-script = known-none text m left n s k (λ a
     let two : Some all ≡ None = sym (ended-led m left n s all e g.tokens g.lexed g.led) ∙ no-script in
     cc)
 
-no-more : (m : Mode) (left : List ℕ) → lex m left ≡ bad → (ts : List Token) → Lexes m left ts → ⊥
+pub no-more : (m : Mode) (left : List ℕ) → lex m left ≡ bad → (ts : List Token) → Lexes m left ts → ⊥
 no-more m left e [] x = let wrong : bad ≡ done = sym e ∙ x in cc
 no-more m left e (t ∷ ts) x = let wrong : bad ≡ got t x.0 = sym e ∙ x.1 in cc
 

@@ -13,7 +13,10 @@ fn plain(b: u8) -> bool
     ensures { result ≡ spec.plain b }
 {
     b.is_ascii_alphanumeric()
-        || matches!(b, b'_' | b'.' | b'/' | b',' | b':' | b'+' | b'-' | b'@' | b'%')
+        || matches!(
+            b,
+            b'_' | b'.' | b'/' | b',' | b':' | b'+' | b'-' | b'@' | b'%'
+        )
 }
 
 fn blank(b: u8) -> bool
@@ -57,13 +60,11 @@ fn single(alloc: Global, text: &[u8]) -> Result<(Token, &[u8]), LexError>
     ensures { Gives result (spec.single text.now) }
 {
     let n = quotables(text);
-    match &text[n..] {
-        [b'\'', rest @ ..] => {
-            let inside = Text::from_slice(alloc, &text[..n])?;
-            Ok((Token::Word(Bit::Single(inside)), rest))
-        }
-        _ => Err(LexError::Bad),
-    }
+    let [b'\'', rest @ ..] = &text[n..] else {
+        return Err(LexError::Bad);
+    };
+    let inside = Text::from_slice(alloc, &text[..n])?;
+    Ok((Token::Word(Bit::Single(inside)), rest))
 }
 
 /// The longest run of plain bytes.

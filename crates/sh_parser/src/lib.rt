@@ -13,3 +13,6 @@ pub use reading::{ParseErr, parse};
 pub use state::Now;
 pub use token::{Bit, LexError, Mode, Op, Token};
 pub use tree::{AndOr, Command, List, Part, Pipeline, Script, Word};
+
+#[cfg(test)]
+mod tests;

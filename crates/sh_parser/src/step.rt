@@ -7,8 +7,8 @@ ghost use Rattle.sh_parser.specs.Steps.{Steps, HasLeaf};
 
 use crate::state::Now;
 use crate::token::{Bit, Op, Token};
-use hs_world::Text;
 use crate::tree::{AndOr, Command, List, Part, Pipeline, Script, Word};
+use hs_world::Text;
 use sqlite_items::Items;
 use std::alloc::{AllocError, Global};
 
@@ -98,6 +98,24 @@ fn begin(
     }
 }
 
+fn part_of(bit: Bit) -> Part
+    ensures { result ≡ machine.part_of bit }
+{
+    match bit {
+        Bit::Piece(text) => Part::Plain(text),
+        Bit::Single(text) => Part::Single(text),
+    }
+}
+
+/// The parts of a word that has begun.
+fn first_part(alloc: Global, bit: Bit) -> Result<Items<Part>, AllocError>
+    ensures { IfOk result (λ parts. parts ≡ machine.part_of bit ∷ []) }
+{
+    let mut first = Items::new(alloc);
+    first.push(part_of(bit))?;
+    Ok(first)
+}
+
 /// After a command's name, which has to end here.
 fn named(
     alloc: Global,
@@ -110,23 +128,15 @@ fn named(
 {
     match token {
         Token::WordEnd => {
-            let mut parts = Items::new(alloc);
-            parts.push(Part::Plain(Text::from_slice(alloc, b"echo")?))?;
+            let echo = Bit::Piece(Text::from_slice(alloc, b"echo")?);
             let mut words = Items::new(alloc);
-            words.push(Word { parts })?;
+            words.push(Word {
+                parts: first_part(alloc, echo)?,
+            })?;
             Ok(Some(Now::Words(items, leaf, words)))
         }
         Token::Operator(_) => Ok(None),
         Token::Word(_) => Ok(None),
-    }
-}
-
-fn part_of(bit: Bit) -> Part
-    ensures { result ≡ machine.part_of bit }
-{
-    match bit {
-        Bit::Piece(text) => Part::Plain(text),
-        Bit::Single(text) => Part::Single(text),
     }
 }
 
@@ -148,8 +158,7 @@ fn words(
             Ok(Some(Now::Begin(with_item(items, leaf)?)))
         }
         Token::Word(bit) => {
-            let mut parts = Items::new(alloc);
-            parts.push(part_of(bit))?;
+            let parts = first_part(alloc, bit)?;
             Ok(Some(Now::InWord(items, leaf, words, parts)))
         }
         Token::WordEnd => Ok(None),
