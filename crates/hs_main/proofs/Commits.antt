@@ -123,7 +123,10 @@ stops-append es fs w v u s t r stop.NoMemory f g c (done, front, d) = (es ++ don
 pub stops-before : (out err : Type 0) (es fs : List Effect) (w u : WorldData) (s r : Streams) (why : Stop) →
     Commits out err es w u s r (Err why) → Commits out err (es ++ fs) w u s r (Err why)
 stops-before out err es fs w u s r (stop.Spent kind) (limit, m, k, d) = (
-  limit, misfit-front es fs w limit m, k, subst (λ (xs : List Effect). IsCommitted xs w u s r) (sym (fitting-front es fs w limit m)) d,
+  limit,
+  misfit-front es fs w limit m,
+  k,
+  subst (λ (xs : List Effect). IsCommitted xs w u s r) (sym (fitting-front es fs w limit m)) d,
 )
 stops-before out err es fs w u s r stop.OutFault (done, front, d) =
     (done, record { rest = front.rest ++ fs; whole = ap (λ (xs : List Effect). xs ++ fs) front.whole ∙ append_assoc done front.rest fs }, d)

@@ -33,8 +33,7 @@ pub leaf-done : (out err : Type 0) (script : Script) (k : ℕ) (w w' : WorldData
     DoesThese script k es → IsCommitted es w w' s t → status ≡ w'.status → turns' ≡ turns - 1 → LeafRuns out err script k w w' turns turns' s t (Ok status)
 leaf-done out err script k w w' turns turns' s t es status h f c e n =
     let d = did script k w turns es h f in
-    let zero-status : status ≡ 0 = e ∙ ap (λ (x : WorldData). x.status) c.world ∙ ap (λ (x : Did). (Applied x.effects w).status) (sym (f w 0)) ∙ leaf-status (slice_get script.leaves k) w in
-    (
+    let zero-status : status ≡ 0 = e ∙ ap (λ (x : WorldData). x.status) c.world ∙ ap (λ (x : Did). (Applied x.effects w).status) (sym (f w 0)) ∙ leaf-status (slice_get script.leaves k) w in (
       ap (λ (x : Did). x.came) d ∙ ap (λ (n : ℕ). Gives (Status n)) (sym zero-status),
       subst (λ (x : Did). IsCommitted x.effects w w' s t) (sym d) c,
       n ∙ ap (λ (x : Did). turns - x.turns) (sym d),

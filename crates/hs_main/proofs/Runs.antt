@@ -104,7 +104,7 @@ reached-stop {out = out} {err = err} {out' = out'} {err' = err'} script items i 
     let got = one-more script items i status e x _ σ h is r.reached in
     let all = ap (λ (y : Got). (state_of y).effects) got ∙ first.1 in
     inl (subst (λ (es : List Effect). Commits out' err' es w₀ w' s₀ t (Err why)) (sym all)
-        (stops-before out' err' (σ.effects ++ d.effects) first.0 w₀ w' s₀ t why (stops-append σ.effects d.effects w₀ w w' s₀ s t why f g r.committed c)))
+    (stops-before out' err' (σ.effects ++ d.effects) first.0 w₀ w' s₀ t why (stops-append σ.effects d.effects w₀ w w' s₀ s t why f g r.committed c)))
 reached-stop script items i status e x w₀ turns₀ w w' turns turns' turns'' head leaves s₀ s t why f g h is r (inr (kind, is-spent, came, committed)) =
     let σ = r.state in
     let d = did_at script x σ in
@@ -146,15 +146,14 @@ front-fits got w done front fit = record {
 whole-row : (row : Row) (w w' : WorldData) (report : Report) (s t : Streams) (es : List Effect) → row.effects ≡ es → IsCommitted es w w' s t → report.count ≡ w'.count → IsWhole row w report s t
 whole-row row w w' report s t es e c n =
     subst (λ (xs : List Effect). (report.count ≡ (Applied xs w).count) → IsCommitted xs w (Applied xs w) s t → IsWhole row w report s t) e
-        (λ count committed. record { committed = committed; count = count })
-        (n ∙ ap (λ (v : WorldData). v.count) c.world) (record { fit = c.fit; world = refl; streams = c.streams })
+    (λ count committed. record { committed = committed; count = count })
+    (n ∙ ap (λ (v : WorldData). v.count) c.world) (record { fit = c.fit; world = refl; streams = c.streams })
 
 pub run-done : (got : Got) (w w' : WorldData) (turns turns' head status : ℕ) (s t : Streams) (report : Report) → CameTo status got w w' turns' head s t →
     report.count ≡ w'.count → report.head ≡ head → report.turns ≡ turns - turns' →
     (run.Done status ≡ (cut w (ended got)).ending) × IsWhole (cut w (ended got)) w report s t × IsTold (ended got) turns report
 run-done got w w' turns turns' head status s t report c n h m =
-    let is : ended got ≡ record { ending = run.Done status; state = c.state } = ap ended c.gave in
-    (
+    let is : ended got ≡ record { ending = run.Done status; state = c.state } = ap ended c.gave in (
       sym (ap (λ (f : Final). cut_ending (misfit f.state.effects w) f.ending) is ∙ ap (λ (l : Option Limit). cut_ending l (run.Done status)) c.committed.fit),
       whole-row _ w w' report s t c.state.effects (ap (λ (f : Final). fitting f.state.effects w) is ∙ fitting-all c.state.effects w c.committed.fit) c.committed n,
       (h ∙ c.leaves ∙ ap (λ (f : Final). f.state.leaves) (sym is), m ∙ ap (λ (k : ℕ). turns - k) c.turns ∙ ap (λ (f : Final). turns - f.state.turns) (sym is)),
@@ -164,8 +163,7 @@ pub run-spent : (got : Got) (w w' : WorldData) (kind : SpentKind) (s t : Streams
     (run.Stopped (Ran_out kind) ≡ (cut w (ended got)).ending) × IsWhole (cut w (ended got)) w report s t
 run-spent got w w' kind s t report c n =
     let same : kind ≡ c.kind = cc (c.why) in
-    let is : ended got ≡ record { ending = run.Stopped (Ran_out c.kind); state = c.state } = ap ended c.ends in
-    (
+    let is : ended got ≡ record { ending = run.Stopped (Ran_out c.kind); state = c.state } = ap ended c.ends in (
       ap (λ (k : SpentKind). run.Stopped (Ran_out k)) same
           ∙ sym (ap (λ (f : Final). cut_ending (misfit f.state.effects w) f.ending) is ∙ ap (λ (l : Option Limit). cut_ending l (run.Stopped (Ran_out c.kind))) c.committed.fit),
       whole-row _ w w' report s t c.state.effects (ap (λ (f : Final). fitting f.state.effects w) is ∙ fitting-all c.state.effects w c.committed.fit) c.committed n,
@@ -245,4 +243,4 @@ pub plain-stopped : (out err : Type 0) (script script' : Script) (w w' : WorldDa
     Runs out err script w turns s t ends report
 plain-stopped out err script script' w w' turns turns' head s t why ends report same c is n =
     subst (λ (e : Ending). Runs out err script w turns s t e report) (sym is)
-        (subst (λ (x : Script). Runs out err x w turns s t (ending_of why) report) same (plain-stops out err script' w w' turns turns' head s t why report c n))
+    (subst (λ (x : Script). Runs out err x w turns s t (ending_of why) report) same (plain-stops out err script' w w' turns turns' head s t why report c n))

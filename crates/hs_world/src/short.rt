@@ -1,5 +1,5 @@
 //! Up to 22 bytes, held in place: as many as leave a text no larger than a `Vec`.
-ghost use Rattle.std.specs.Prelude.{◌≡◌, ◌↔◌, ◌≤◌, ℕ, List, [], ◌∷◌, ◌++◌, length, take, IfSome, IsTrue, IsFalse};
+ghost use Rattle.std.specs.Prelude.{◌≡◌, ◌↔◌, ◌≤◌, ℕ, List, [], ◌∷◌, ◌++◌, length, IsTrue, IsFalse};
 
 use std::marker::Model;
 
@@ -65,13 +65,5 @@ impl Short {
         self.bytes[len..len + more.len()].copy_from_slice(more);
         self.len += more.len() as u8;
         true
-    }
-
-    pub fn truncate(&mut self, n: usize)
-        ensures { self.new ≡ take n self.old }
-    {
-        if n < self.len as usize {
-            self.len = n as u8;
-        }
     }
 }

@@ -1,4 +1,4 @@
-use crate::{Effect, Effects, Fd, Limit, Limits, Text, TextList, World, WorldErr};
+use crate::{Effect, Effects, Fd, Field, Fields, Limit, Limits, Text, TextList, World, WorldErr};
 use std::test::Fail;
 
 const LIMITS: Limits = Limits {
@@ -30,6 +30,12 @@ fn lists_grow_at_the_end(rt: HostRuntime) -> Result<(), Fail> {
     let mut texts = TextList::new(alloc);
     texts.push(Text::from_slice(alloc, b"a")?)?;
     assert_eq!(rt; texts.clone()?.as_slice().len(), 1);
+    let mut field = Field::new(alloc);
+    field.push(b'*', true)?;
+    let mut fields = Fields::new(alloc);
+    fields.push(field.clone()?)?;
+    assert_eq!(rt; fields.clone()?.as_slice().len(), 1);
+    assert_eq!(rt; field.as_slice().len(), 1);
     let mut effects = Effects::new(alloc);
     effects.push(Effect::SetStatus(3))?;
     assert_eq!(rt; effects.clone()?.as_slice().len(), 1);
@@ -40,7 +46,10 @@ fn lists_grow_at_the_end(rt: HostRuntime) -> Result<(), Fail> {
 fn effects_are_applied_and_counted(rt: HostRuntime) -> Result<(), Fail> {
     let mut world = World::new(LIMITS);
     assert_eq!(rt; world.apply(&Effect::SetStatus(3)), Ok(()));
-    assert_eq!(rt; world.apply(&Effect::Emit(Fd::One, Text::new(rt.alloc()))), Ok(()));
+    assert_eq!(rt;
+        world.apply(&Effect::Emit(Fd::One, Text::new(rt.alloc()))),
+        Ok(())
+    );
     assert_eq!(rt; world.status(), 3);
     assert_eq!(rt; world.count(), 2);
     assert_eq!(rt; world.fits(&Effect::SetStatus(0)), None);

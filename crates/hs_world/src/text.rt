@@ -126,7 +126,6 @@ impl Text {
             Held::Shared(block) => extend_block(self.alloc, block, more),
         }
     }
-
 }
 
 fn extend_block(alloc: Global, block: &mut Arc<Vec<u8>>, more: &[u8]) -> Result<(), AllocError>

@@ -5,7 +5,7 @@ use Rattle.hs_main.proofs.commit.commit_all.Goals as goal
 pub returns-in-Err-clause-commits : goal.returns-in-Err-clause-commits
 returns-in-Err-clause-commits g c =
     stops-next _ _ _ _ _ _ _ _ _ _ (rose-later _ _ _ c.loop-effect.invariant.out_later) (rose-later _ _ _ c.loop-effect.invariant.err_later)
-        c.loop-effect-test.true c.effect-item.is c.loop-effect.invariant.committed c.in-Err.ensures.commits
+    c.loop-effect-test.true c.effect-item.is c.loop-effect.invariant.committed c.in-Err.ensures.commits
 
 pub loop-effect-preserved : goal.loop-effect-preserved
 loop-effect-preserved g c = record {

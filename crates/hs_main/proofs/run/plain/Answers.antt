@@ -7,7 +7,7 @@ pub returns-in-Ok-clause-runs : goal.returns-in-Ok-clause-runs
 returns-in-Ok-clause-runs g c =
     let report = c.report.ensures in
     plain-done (Unit {0}) (Unit {0}) _ _ _ _ _ _ _ _ _ _ c.report.result c.deref.ensures c.in-Ok.ensures.runs
-        (ap (λ (r : Report). r.count) report) (ap (λ (r : Report). r.head) report) (ap (λ (r : Report). r.turns) report)
+    (ap (λ (r : Report). r.count) report) (ap (λ (r : Report). r.head) report) (ap (λ (r : Report). r.turns) report)
 
 pub returns-clause-runs : goal.returns-clause-runs
 returns-clause-runs g c =

@@ -14,7 +14,7 @@ loop-item-init g c = record {
 pub returns-in-Err-clause-runs : goal.returns-in-Err-clause-runs
 returns-in-Err-clause-runs g c =
     reached-stop _ _ _ _ (record { first = 0 }) _ _ _ _ _ _ 0 0 _ 0 _ _ _ _ (rose-later _ _ _ c.loop-item.invariant.out_later)
-        (rose-later _ _ _ c.loop-item.invariant.err_later) c.loop-item-test.true refl c.loop-item.invariant.reached c.in-Err.ensures.runs
+    (rose-later _ _ _ c.loop-item.invariant.err_later) c.loop-item-test.true refl c.loop-item.invariant.reached c.in-Err.ensures.runs
 
 pub loop-item-preserved : goal.loop-item-preserved
 loop-item-preserved g c = record {

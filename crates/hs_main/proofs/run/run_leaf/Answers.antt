@@ -8,7 +8,7 @@ returns-in_default-clause-runs g c = leaf-wants (Unit {0}) (Unit {0}) c.args.scr
 pub returns-in-Ok-commit_all-clause-runs : goal.returns-in-Ok-commit_all-clause-runs
 returns-in-Ok-commit_all-clause-runs g c =
     leaf-done (Unit {0}) (Unit {0}) c.args.script.now c.args.number _ _ _ _ _ _ c.in-Ok.effects _ c.if-run-eq0.false c.in-Ok.ensures
-        (rw c.as_slice.ensures at c.in-Ok-commit_all.ensures.commits) c.status.ensures refl
+    (rw c.as_slice.ensures at c.in-Ok-commit_all.ensures.commits) c.status.ensures refl
 
 pub returns-clause-runs : goal.returns-clause-runs
 returns-clause-runs g c =
