@@ -193,3 +193,6 @@ stops-next {out' = out'} {err' = err'} es i e w v u s t r why f g h is c d =
     let a = stops-before out' err' (take i es ++ e ∷ []) (drop (i + 1) es) w u s r why (stops-append (take i es) (e ∷ []) w v u s t r why f g c d) in
     let same : (take i es ++ e ∷ []) ++ drop (i + 1) es ≡ es = ap (λ (xs : List Effect). xs ++ drop (i + 1) es) (taken es i e h is) ∙ take-append-drop (i + 1) es in
     subst (λ (xs : List Effect). Commits out' err' xs w u s r (Err why)) same a
+
+pub rose-on : (a b c : ℕ) → b ≤ c → Rose a b → Rose a c
+rose-on a b c h r = omega arith

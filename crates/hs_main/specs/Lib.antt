@@ -2,3 +2,4 @@ pub mod Commit
 pub mod Ending
 pub mod Plain
 pub mod Through
+pub mod Top

@@ -1,0 +1,103 @@
+//! The whole program, from its words to its status.
+
+ghost use Rattle.std.specs.Prelude.{◌≡◌, ◌≤◌, ℕ, List, MatchOption};
+ghost use Rattle.hs_outside.specs.Causes.{Rose};
+ghost use Rattle.hs_main.specs.Ending.{status_of};
+ghost use Rattle.hs_main.specs.Commit.{Streams};
+ghost use Rattle.hs_main.specs.Top.{Asks, RunsWords, Tops, no_report};
+
+use crate::ending::{Answer, Ending, Report};
+use crate::gate::Gate;
+use crate::run::plain;
+use hs_outside::{Host, Sink, Source, send};
+use hs_world::{Limits, Text, World};
+use sh_parser::{ParseErr, Script, parse};
+use std::alloc::Global;
+use std::sync::Arc;
+
+/// The limits of a run that is given none.
+const LIMITS: Limits = Limits {
+    bytes: 16_777_216,
+    turns: 1_000_000,
+};
+
+/// Where no run began.
+fn no_report() -> Report
+    ensures { result ≡ no_report }
+{
+    Report {
+        head: 0,
+        turns: 0,
+        count: 0,
+    }
+}
+
+/// The text that stands after `-c`, where these are the words (POSIX.1-2017, XCU, sh).
+fn script_text(words: &[Text]) -> Option<&Text>
+    ensures { MatchOption result ((text : List ℕ) → Asks words.now text → ⊥) (λ text. Asks words.now text.now) }
+{
+    let [option, text] = words else {
+        return None;
+    };
+    if option.as_slice() == b"-c".as_slice() {
+        Some(text)
+    } else {
+        None
+    }
+}
+
+/// Runs the script that the words hand over.
+fn run_words<H: Host, O: Sink, E: Sink>(
+    alloc: Global,
+    words: &[Text],
+    host: &mut H,
+    out: &mut O,
+    err: &mut E,
+) -> (Ending, Report)
+    ensures runs { RunsWords (Rose (O.faults out.old) (O.faults out.new)) (Rose (E.faults err.old) (E.faults err.new)) words.now
+        (record { out = O.written out.old; err = E.written err.old }) (record { out = O.written out.new; err = E.written err.new }) result.0 result.1 }
+    ensures out_later { O.faults out.old ≤ O.faults out.new }
+    ensures err_later { E.faults err.old ≤ E.faults err.new }
+{
+    let Some(text) = script_text(words) else {
+        return (Ending::Unbuilt, no_report());
+    };
+    let script = match parse(alloc, text.as_slice()) {
+        Ok(script) => script,
+        Err(ParseErr::Unbuilt) => return (Ending::Unbuilt, no_report()),
+        Err(ParseErr::NoMemory) => return (Ending::NoMemory, no_report()),
+    };
+    let Ok(script) = Arc::new(alloc, script) else {
+        return (Ending::NoMemory, no_report());
+    };
+    plain(alloc, script, World::new(LIMITS), LIMITS, host, out, err)
+}
+
+/// All that the program does: reads the words, runs the script over the host and the two sinks, and says on standard
+/// error how the run ended, where it was not at the script's own end. The environment, the input and the gate are not
+/// asked yet.
+pub fn top<H: Host, I: Source, O: Sink, E: Sink, G: Gate>(
+    alloc: Global,
+    words: &[Text],
+    env: &[(Text, Text)],
+    host: &mut H,
+    input: &mut I,
+    out: &mut O,
+    err: &mut E,
+    gate: &G,
+) -> Answer
+    ensures tops { Tops (Rose (O.faults out.old) (O.faults out.new)) (Rose (E.faults err.old) (E.faults err.new)) words.now
+        (record { out = O.written out.old; err = E.written err.old }) (record { out = O.written out.new; err = E.written err.new }) result.ending result.report }
+    ensures status { result.status ≡ status_of result.ending }
+{
+    let _ = env.len();
+    let _ = input;
+    let _ = gate;
+    let (ending, report) = run_words(alloc, words, host, out, err);
+    let _ = send(err, ending.line());
+    Answer {
+        status: ending.status(),
+        ending,
+        report,
+    }
+}
