@@ -1,5 +1,5 @@
 -- Effects that are committed in two parts.
-use Rattle.std.proofs.Common.{◌≡◌, ℕ, ◌+◌, ◌<◌, ◌≤◌, List, [], ◌∷◌, ◌++◌, Option, Some, None, Result, Ok, Err, ◌⊎◌, inl, inr, refl, sym, ap, subst, ◌∙◌, append_assoc, arith, length, take, drop, get_or}
+use Rattle.std.proofs.Common.{◌≡◌, ℕ, ◌+◌, ◌<◌, ◌≤◌, List, [], ◌∷◌, ◌++◌, Option, Some, None, Err, ◌⊎◌, inl, inr, refl, sym, ap, subst, ◌∙◌, append_assoc, arith, length, take, drop, get_or}
 use Rattle.std.proofs.lemmas.List.{take_more, take-append-drop}
 use Rattle.hs_world.specs.declared.effect.Effect.{Effect}
 use Rattle.hs_world.specs.declared.effect.Fd.{Fd}
@@ -8,7 +8,7 @@ use Rattle.hs_world.specs.declared.world.Limit.{Limit}
 use Rattle.hs_world.specs.World.{WorldData, Apply, Applied, passed, sent, output, errors}
 use Rattle.hs_world.proofs.Laws.{Applied-append, written-append}
 use Rattle.hs_outside.specs.Causes.{Rose}
-use Rattle.hs_outside.specs.Streams.{appended, IsCut}
+use Rattle.hs_outside.specs.Streams.{appended}
 use Rattle.hs_outside.proofs.Fronts.{appended-nil, appended-append}
 use Rattle.sh_leaf.specs.declared.spent.SpentKind.{SpentKind}
 use Rattle.sh_leaf.specs.Run.{misfit, fitting, kind_of}

@@ -1,10 +1,9 @@
 -- One leaf of a run.
-use Rattle.std.proofs.Common.{◌≡◌, ◌≢◌, ℕ, ◌-◌, zero, suc, List, [], Result, Ok, Err, ◌⊎◌, inl, refl, sym, ap, subst, ◌∙◌}
+use Rattle.std.proofs.Common.{◌≡◌, ◌≢◌, ℕ, ◌-◌, zero, suc, List, [], Ok, Err, inl, refl, sym, ap, subst, ◌∙◌}
 use Rattle.std.specs.Prelude.{slice_get}
 use Rattle.hs_world.specs.declared.effect.Effect.{Effect}
 use Rattle.hs_world.specs.World.{WorldData, Applied}
 use Rattle.sh_parser.specs.declared.tree.Script.{Script}
-use Rattle.sh_leaf.specs.Leaf.{leaf_effects}
 use Rattle.sh_leaf.specs.Do.{Did, Do, Gives, Status}
 use Rattle.sh_leaf.proofs.Adds.{leaf-status}
 use Rattle.hs_main.specs.declared.commit.Stop.{Stop}

@@ -1,15 +1,14 @@
 -- A run that is committed leaf by leaf.
-use Rattle.std.proofs.Common.{◌≡◌, ◌≢◌, ℕ, ◌+◌, ◌-◌, ◌<◌, suc, List, [], ◌∷◌, ◌++◌, length, drop, get_or, Option, Some, None, Result, Ok, Err, ◌⊎◌, inl, inr, refl, sym, ap, subst, ◌∙◌, append_assoc, drop-cons, add-one, ◌==◌, true, arith}
+use Rattle.std.proofs.Common.{◌≡◌, ◌≢◌, ℕ, ◌+◌, ◌-◌, ◌<◌, suc, List, [], ◌∷◌, ◌++◌, length, drop, get_or, Option, Some, None, Result, Ok, Err, inl, inr, refl, sym, ap, subst, ◌∙◌, drop-cons, add-one, ◌==◌, true, arith}
 use Rattle.std.proofs.lemmas.Bool.Decides.{nat_tests}
 use Rattle.hs_world.specs.declared.effect.Effect.{Effect}
-use Rattle.hs_world.specs.declared.effect.Effect.TheVariants.{SetStatus}
 use Rattle.hs_world.specs.declared.world.Limit.{Limit}
 use Rattle.hs_world.specs.World.{WorldData, Applied}
 use Rattle.sh_parser.specs.declared.tree.AndOr.{AndOr}
 use Rattle.sh_parser.specs.declared.tree.Script.{Script}
 use Rattle.sh_leaf.specs.declared.spent.SpentKind.{SpentKind}
 use Rattle.sh_leaf.specs.Do.{Status, Came, Gives, Stops, Ran_out, Did, Do}
-use Rattle.sh_leaf.specs.Run.{State, Got, Gave, Ends, onward, make, came_to, absorb, state_of, run_leaf, run_items, run_list, list_at, begin, Final, ended, fitting, misfit, kind_of, cut_ending, Row, cut}
+use Rattle.sh_leaf.specs.Run.{State, Got, Gave, Ends, onward, make, came_to, absorb, state_of, run_leaf, run_items, run_list, list_at, begin, Final, ended, fitting, misfit, kind_of, cut_ending, Row, cut, Serial}
 use Rattle.sh_leaf.specs.Run as run
 use Rattle.sh_leaf.proofs.Adds.{items-add}
 use Rattle.sh_leaf.proofs.Cuts.{fitting-append, fitting-all}
@@ -18,8 +17,8 @@ use Rattle.hs_main.specs.declared.commit.Stop.TheVariants as stop
 use Rattle.hs_main.specs.declared.ending.Ending.{Ending}
 use Rattle.hs_main.specs.declared.ending.Ending.TheVariants as ending
 use Rattle.hs_main.specs.declared.ending.Report.{Report}
-use Rattle.hs_main.specs.Commit.{Streams, IsCommitted, IsShort, IsFront, IsFault, IsWant, Commits}
-use Rattle.hs_main.specs.Plain.{LeafRuns, Came as CameTo, IsSpent, GotRuns, IsStopped, IsWhole, IsTold, Runs, ending_of}
+use Rattle.hs_main.specs.Commit.{Streams, IsCommitted, IsFront, IsFault, IsWant, Commits}
+use Rattle.hs_main.specs.Plain.{LeafRuns, Came as CameTo, IsSpent, GotRuns, IsStopped, IsWhole, IsTold, Runs, IsComplete, ending_of}
 use Rattle.hs_main.proofs.Commits.{commits-nothing, commits-append, stops-append, stops-before}
 
 -- ---- the commands so far
@@ -244,3 +243,19 @@ pub plain-stopped : (out err : Type 0) (script script' : Script) (w w' : WorldDa
 plain-stopped out err script script' w w' turns turns' head s t why ends report same c is n =
     subst (λ (e : Ending). Runs out err script w turns s t e report) (sym is)
     (subst (λ (x : Script). Runs out err x w turns s t (ending_of why) report) same (plain-stops out err script' w w' turns turns' head s t why report c n))
+
+-- ---- completeness
+
+pub plain-complete : (out err : Type 0) (script : Script) (w : WorldData) (turns : ℕ) (s t : Streams) (ends : Ending) (report : Report) →
+    Runs out err script w turns s t ends report → IsComplete out err (Serial script w turns) ends
+plain-complete out err script w turns s t (ending.Done status) report r wanted e no-out no-err =
+    let two : run.Done status ≡ run.Done wanted = r.0 ∙ e in let same : status ≡ wanted = cc in inl (ap ending.Done same)
+plain-complete out err script w turns s t ending.Unbuilt report r wanted e no-out no-err = absurd r
+plain-complete out err script w turns s t (ending.Spent kind) report r wanted e no-out no-err =
+    let two : run.Stopped (Ran_out kind) ≡ run.Done wanted = r.0 ∙ e in absurd cc
+plain-complete out err script w turns s t ending.OutFault report (done, r) wanted e no-out no-err = absurd (faulted r.state)
+  where
+    faulted : IsFault out err done w (Applied done w) s t → ⊥
+    faulted (inl (o, d)) = no-out o
+    faulted (inr (o, d)) = no-err o
+plain-complete out err script w turns s t ending.NoMemory report r wanted e no-out no-err = inr refl

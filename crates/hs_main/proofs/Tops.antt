@@ -6,11 +6,13 @@ use Rattle.hs_main.specs.declared.ending.Ending.{Ending}
 use Rattle.hs_main.specs.declared.ending.Ending.TheVariants as ending
 use Rattle.hs_main.specs.declared.ending.Report.{Report}
 use Rattle.hs_main.specs.Commit.{Streams, IsFault}
-use Rattle.hs_main.specs.Plain.{Runs}
-use Rattle.hs_main.specs.Top.{Asks, IsAsked, start, default_turns, IsLine, IsRun, RunsWords}
+use Rattle.hs_main.specs.Plain.{Runs, IsComplete}
+use Rattle.hs_main.proofs.Runs.{plain-complete}
+use Rattle.sh_leaf.specs.Run.{Serial}
+use Rattle.hs_main.specs.Top.{Asks, IsAsked, start, default_turns, IsLine, IsRun, RunsWords, IsCompleteFor}
 use Rattle.hs_world.specs.World.{WorldData, Applied}
 use Rattle.sh_parser.specs.declared.tree.Script.{Script}
-use Rattle.sh_parser.specs.Spells.{IsScriptOf, IsBuilt, longest}
+use Rattle.sh_parser.specs.Spells.{Spells, IsScriptOf, IsBuilt, longest}
 use Rattle.std.specs.Prelude.{codes}
 
 -- a run never ends as unbuilt
@@ -94,3 +96,21 @@ two-words [] a b least most is-a is-b = absurd (omega arith)
 two-words (x ∷ []) a b least most is-a is-b = absurd (omega arith)
 two-words (x ∷ y ∷ []) a b least most is-a is-b = cc
 two-words (x ∷ y ∷ z ∷ rest) a b least most is-a is-b = absurd (omega arith)
+
+-- ---- completeness
+
+run-complete : (out err : Type 0) (words : List (List ℕ)) (s t : Streams) (ends : Ending) (report : Report) → IsRun out err words s t ends report → IsCompleteFor out err words ends
+run-complete out err words s t ends report r text script asks short spelled =
+    let e : codes "-c" ∷ text ∷ [] ≡ codes "-c" ∷ r.text ∷ [] = sym asks ∙ r.asks in
+    let same-text : text ≡ r.text = one-text (codes "-c") text r.text e in
+    let same : r.script ≡ script = spelled.only r.script (subst (λ (x : List ℕ). Spells r.script x) (sym same-text) r.spelled.spelled) in
+    subst (λ (x : Script). IsComplete out err (Serial x start default_turns) ends) same (plain-complete out err r.script start default_turns s t ends report r.runs)
+
+pub words-complete : (out err : Type 0) (words : List (List ℕ)) (s t : Streams) (ends : Ending) (report : Report) → RunsWords out err words s t ends report → IsCompleteFor out err words ends
+words-complete out err words s t (ending.Done status) report r = run-complete out err words s t (ending.Done status) report r
+words-complete out err words s t (ending.Spent kind) report r = run-complete out err words s t (ending.Spent kind) report r
+words-complete out err words s t ending.OutFault report r = run-complete out err words s t ending.OutFault report r
+words-complete out err words s t ending.Unbuilt report r =
+    λ text script asks short spelled.
+    absurd (r.0 (record { text = text; asks = asks; built = record { short = short; script = script; spelled = spelled.spelled } }))
+words-complete out err words s t ending.NoMemory report r = λ text script asks short spelled status e no-out no-err. inr refl

@@ -44,6 +44,11 @@ Runs out err script w turns old new ending.NoMemory report =
     (done : List Effect) × IsStopped done (Serial script w turns) w report (λ w'. IsWant done w w' old new)
 Runs out err script w turns old new ending.Unbuilt report = ⊥
 
+-- Where the serial meaning runs to the script's end and no count of faults rose, so does the run, if memory suffices.
+abbrev pub IsComplete : (out err : Type 0) → Row → Ending → Type 0
+IsComplete out err row ends =
+    (status : ℕ) → row.ending ≡ run.Done status → (out → ⊥) → (err → ⊥) → (ends ≡ ending.Done status) ⊎ (ends ≡ ending.NoMemory)
+
 -- ---- its parts
 
 -- One leaf: it came to a status, or the run stopped in its effects, or it was spent.

@@ -9,7 +9,8 @@ use Rattle.hs_main.specs.declared.ending.Ending.TheVariants as ending
 use Rattle.hs_main.specs.declared.ending.Report.{Report}
 use Rattle.hs_main.specs.Ending.{line_of}
 use Rattle.hs_main.specs.Commit.{Streams}
-use Rattle.hs_main.specs.Plain.{Runs}
+use Rattle.sh_leaf.specs.Run.{Serial}
+use Rattle.hs_main.specs.Plain.{Runs, IsComplete}
 
 -- ---- the words (POSIX.1-2017, XCU, sh: the option -c)
 
@@ -67,3 +68,8 @@ pub record Tops (out err : Type 0) (words : List (List ℕ)) (old new : Streams)
   pub ran : Streams
   pub runs : RunsWords out err words old ran ends report
   pub line : IsLine (line_of ends) ran new
+
+-- Where the words hand over a script, its run is complete.
+abbrev pub IsCompleteFor : (out err : Type 0) → List (List ℕ) → Ending → Type 0
+IsCompleteFor out err words ends = (text : List ℕ) (script : Script) → Asks words text → length text ≤ longest → IsScriptOf script text →
+    IsComplete out err (Serial script start default_turns) ends

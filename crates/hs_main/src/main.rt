@@ -6,6 +6,8 @@ mod ending;
 mod gate;
 mod run;
 mod stream;
+#[cfg(test)]
+mod tests;
 mod top;
 
 use gate::NoGate;

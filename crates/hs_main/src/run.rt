@@ -4,11 +4,11 @@ ghost use Rattle.std.specs.Prelude.{◌≡◌, ◌≤◌, ◌-◌, ℕ, List, []
 ghost use Rattle.std.specs.Arc.{arc_value};
 ghost use Rattle.hs_outside.specs.Causes.{Rose};
 ghost use Rattle.sh_leaf.specs.Do.{Status};
-ghost use Rattle.sh_leaf.specs.Run.{begin, list_at, run_items, run_list};
+ghost use Rattle.sh_leaf.specs.Run.{Serial, begin, list_at, run_items, run_list};
 ghost use Rattle.sh_parser.specs.Spells.{Spells};
 ghost use Rattle.sh_parser.specs.declared.tree.Script.{Script};
 ghost use Rattle.hs_main.specs.Commit.{Streams};
-ghost use Rattle.hs_main.specs.Plain.{GotRuns, LeafRuns, Runs, ending_of};
+ghost use Rattle.hs_main.specs.Plain.{GotRuns, IsComplete, LeafRuns, Runs, ending_of};
 
 use crate::commit::{Stop, commit_all};
 use crate::ending::{Ending, Report};
@@ -186,6 +186,7 @@ pub fn plain<H: Host, O: Sink, E: Sink>(
     requires bytes { 2097152 ≤ limits.bytes }
     ensures runs { Runs (Rose (O.faults out.old) (O.faults out.new)) (Rose (E.faults err.old) (E.faults err.new)) (arc_value script) world limits.turns
         (record { out = O.written out.old; err = E.written err.old }) (record { out = O.written out.new; err = E.written err.new }) result.0 result.1 }
+    ensures complete { IsComplete (Rose (O.faults out.old) (O.faults out.new)) (Rose (E.faults err.old) (E.faults err.new)) (Serial (arc_value script) world limits.turns) result.0 }
     ensures out_later { O.faults out.old ≤ O.faults out.new }
     ensures err_later { E.faults err.old ≤ E.faults err.new }
 {

@@ -4,7 +4,7 @@ ghost use Rattle.std.specs.Prelude.{◌≡◌, ◌≤◌, ℕ, List, MatchOption
 ghost use Rattle.hs_outside.specs.Causes.{Rose};
 ghost use Rattle.hs_main.specs.Ending.{status_of};
 ghost use Rattle.hs_main.specs.Commit.{Streams};
-ghost use Rattle.hs_main.specs.Top.{Asks, RunsWords, Tops, no_report};
+ghost use Rattle.hs_main.specs.Top.{Asks, IsCompleteFor, RunsWords, Tops, no_report};
 
 use crate::ending::{Answer, Ending, Report};
 use crate::gate::Gate;
@@ -88,6 +88,7 @@ pub fn top<H: Host, I: Source, O: Sink, E: Sink, G: Gate>(
 ) -> Answer
     ensures tops { Tops (Rose (O.faults out.old) (O.faults out.new)) (Rose (E.faults err.old) (E.faults err.new)) words.now
         (record { out = O.written out.old; err = E.written err.old }) (record { out = O.written out.new; err = E.written err.new }) result.ending result.report }
+    ensures complete { IsCompleteFor (Rose (O.faults out.old) (O.faults out.new)) (Rose (E.faults err.old) (E.faults err.new)) words.now result.ending }
     ensures status { result.status ≡ status_of result.ending }
 {
     let _ = env.len();

@@ -1,5 +1,5 @@
 -- When an object of the outside may answer that it failed.
-use Rattle.std.specs.Prelude.{◌≡◌, ℕ, ◌+◌, ◌-◌, ◌^◌, ◌≤◌, min, Result, IsErrOf}
+use Rattle.std.specs.Prelude.{ℕ, ◌+◌, ◌-◌, ◌^◌, ◌≤◌, min, Result, IsErrOf}
 use Rattle.hs_outside.specs.declared.outside.Failed.{Failed}
 use Rattle.hs_outside.specs.declared.outside.Failed.TheVariants.{Fault}
 

@@ -1,6 +1,6 @@
 -- What a script does: one recursion over its lists, on one state that is handed on. Nothing is cut inside: a run goes on
 -- as if each effect fitted, and `cut` then ends it before the first that doesn't.
-use Rattle.std.specs.Prelude.{ℕ, ◌+◌, ◌-◌, suc, List, [], ◌∷◌, ◌++◌, Option, Some, None, slice_get}
+use Rattle.std.specs.Prelude.{ℕ, ◌-◌, suc, List, [], ◌∷◌, ◌++◌, Option, Some, None, slice_get}
 use Rattle.hs_world.specs.declared.effect.Effect.{Effect}
 use Rattle.hs_world.specs.declared.effect.Effect.TheVariants.{SetStatus}
 use Rattle.hs_world.specs.declared.world.Limit.{Limit}

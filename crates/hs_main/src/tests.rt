@@ -1,0 +1,177 @@
+//! The program over streams in memory. The rows say what the words write, and how the program ends.
+
+use crate::ending::{Answer, Ending, Report};
+use crate::gate::NoGate;
+use crate::run::plain;
+use crate::top::top;
+use hs_outside::{MemoryHost, MemorySink, MemorySource};
+use hs_world::{Limits, Text, World};
+use sh_leaf::SpentKind;
+use sh_parser::parse;
+use std::alloc::{AllocError, Global};
+use std::sync::Arc;
+use std::test::Fail;
+
+/// What a run wrote, and its answer.
+#[derive(Drop)]
+struct Shown {
+    out: MemorySink,
+    err: MemorySink,
+    answer: Answer,
+}
+
+/// Runs the program with these words and sinks.
+fn run_over(
+    alloc: Global,
+    words: &[&[u8]],
+    mut out: MemorySink,
+    mut err: MemorySink,
+) -> Result<Shown, AllocError> {
+    let mut texts = Vec::new(alloc);
+    for word in words {
+        texts.push(Text::from_slice(alloc, word)?)?;
+    }
+    let mut input = MemorySource::new(Text::new(alloc), 1, Vec::new(alloc))?;
+    let mut host = MemoryHost::new();
+    let answer = top(
+        alloc,
+        &texts,
+        &[],
+        &mut host,
+        &mut input,
+        &mut out,
+        &mut err,
+        &NoGate,
+    );
+    Ok(Shown { out, err, answer })
+}
+
+/// Runs the program with these words over sinks that take all.
+fn run(alloc: Global, words: &[&[u8]]) -> Result<Shown, AllocError> {
+    let out = MemorySink::new(alloc, 4096, Vec::new(alloc))?;
+    let err = MemorySink::new(alloc, 4096, Vec::new(alloc))?;
+    run_over(alloc, words, out, err)
+}
+
+/// Words with what they write to the two streams, and how the program ends.
+#[derive(Drop)]
+struct Row<'a> {
+    words: &'a [&'a [u8]],
+    out: &'a [u8],
+    err: &'a [u8],
+    ending: Ending,
+    status: u8,
+}
+
+fn done<'a>(words: &'a [&'a [u8]], out: &'a [u8]) -> Row<'a> {
+    Row {
+        words,
+        out,
+        err: b"",
+        ending: Ending::Done(0),
+        status: 0,
+    }
+}
+
+fn unbuilt<'a>(words: &'a [&'a [u8]]) -> Row<'a> {
+    Row {
+        words,
+        out: b"",
+        err: b"hs: not built yet\n",
+        ending: Ending::Unbuilt,
+        status: 123,
+    }
+}
+
+#[test]
+fn rows(rt: HostRuntime) -> Result<(), Fail> {
+    let rows = [
+        done(&[b"-c", b""], b""),
+        done(&[b"-c", b"echo a; echo b"], b"a\nb\n"),
+        done(&[b"-c", b"echo a; echo 'b c'"], b"a\nb c\n"),
+        done(&[b"-c", b"\n\necho\n"], b"\n"),
+        unbuilt(&[b"-c", b"echo $x"]),
+        unbuilt(&[b"-c", b"echo 'a"]),
+        unbuilt(&[b"-c", b"; echo a"]),
+        unbuilt(&[b"-c", b"ls"]),
+        unbuilt(&[b"-c"]),
+        unbuilt(&[b"-c", b"echo a", b"name"]),
+        unbuilt(&[b"script", b"echo a"]),
+        unbuilt(&[]),
+    ];
+    for row in rows.iter() {
+        let shown = run(rt.alloc(), row.words)?;
+        assert!(rt; shown.out.written() == row.out);
+        assert!(rt; shown.err.written() == row.err);
+        assert_eq!(rt; shown.answer.ending, row.ending);
+        assert_eq!(rt; shown.answer.status, row.status);
+    }
+    Ok(())
+}
+
+#[test]
+fn a_report_counts_leaves_turns_and_effects(rt: HostRuntime) -> Result<(), Fail> {
+    let shown = run(rt.alloc(), &[b"-c", b"echo a; echo b"])?;
+    let report = Report {
+        head: 2,
+        turns: 2,
+        count: 4,
+    };
+    assert_eq!(rt; shown.answer.report, report);
+    Ok(())
+}
+
+#[test]
+fn a_failing_write_ends_the_run(rt: HostRuntime) -> Result<(), Fail> {
+    let alloc = rt.alloc();
+    let words: [&[u8]; 2] = [b"-c", b"echo abc; echo d"];
+    let failing: [(u64, &[u8]); 3] = [(1, b""), (2, b"ab"), (3, b"abc\n")];
+    for (call, written) in failing.iter() {
+        let out = MemorySink::new(alloc, 2, vec![in alloc; *call]?)?;
+        let err = MemorySink::new(alloc, 4096, Vec::new(alloc))?;
+        let shown = run_over(alloc, &words, out, err)?;
+        assert!(rt; shown.out.written() == *written);
+        assert!(rt; shown.err.written() == b"hs: output failed\n".as_slice());
+        assert_eq!(rt; shown.answer.ending, Ending::OutFault);
+        assert_eq!(rt; shown.answer.status, 121);
+    }
+    Ok(())
+}
+
+#[test]
+fn a_line_that_cannot_be_written_changes_nothing_else(rt: HostRuntime) -> Result<(), Fail> {
+    let alloc = rt.alloc();
+    let out = MemorySink::new(alloc, 2, Vec::new(alloc))?;
+    let err = MemorySink::new(alloc, 4096, vec![in alloc; 1]?)?;
+    let shown = run_over(alloc, &[b"-c", b"ls"], out, err)?;
+    assert!(rt; shown.err.written().is_empty());
+    assert_eq!(rt; shown.answer.ending, Ending::Unbuilt);
+    Ok(())
+}
+
+#[test]
+fn a_run_with_one_turn_does_one_command(rt: HostRuntime) -> Result<(), Fail> {
+    let alloc = rt.alloc();
+    let script = Arc::new(alloc, parse(alloc, b"echo a; echo b")?)?;
+    let limits = Limits {
+        bytes: 16_777_216,
+        turns: 1,
+    };
+    let mut out = MemorySink::new(alloc, 2, Vec::new(alloc))?;
+    let mut err = MemorySink::new(alloc, 2, Vec::new(alloc))?;
+    let mut host = MemoryHost::new();
+    let (ending, report) = plain(
+        alloc,
+        script,
+        World::new(limits),
+        limits,
+        &mut host,
+        &mut out,
+        &mut err,
+    );
+    assert_eq!(rt; ending, Ending::Spent(SpentKind::Turns));
+    assert_eq!(rt; report.count, 2);
+    assert!(rt; out.written() == b"a\n".as_slice());
+    assert!(rt; err.written().is_empty());
+    Ok(())
+}

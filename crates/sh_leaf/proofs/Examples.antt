@@ -1,0 +1,76 @@
+-- The meaning computed on small scripts.
+use Rattle.std.proofs.Common.{◌≡◌, List, [], ◌∷◌, ◌++◌, refl}
+use Rattle.std.specs.Prelude.{codes}
+use Rattle.hs_world.specs.declared.effect.Effect.{Effect}
+use Rattle.hs_world.specs.declared.effect.Effect.TheVariants.{Emit, SetStatus}
+use Rattle.hs_world.specs.declared.effect.Fd.TheVariants.{One}
+use Rattle.hs_world.specs.World.{WorldData, output, errors, Applied}
+use Rattle.sh_parser.specs.declared.tree.Part.TheVariants.{Plain, Single}
+use Rattle.sh_parser.specs.declared.tree.Word.{Word}
+use Rattle.sh_parser.specs.declared.tree.Command.TheVariants.{Simple}
+use Rattle.sh_parser.specs.declared.tree.Pipeline.{Pipeline}
+use Rattle.sh_parser.specs.declared.tree.Script.{Script}
+use Rattle.sh_leaf.specs.declared.spent.SpentKind.TheVariants.{Turns, Bytes}
+use Rattle.sh_leaf.specs.Leaf.{echo_line, field}
+use Rattle.sh_leaf.specs.Do.{Ran_out}
+use Rattle.sh_leaf.specs.Run.{Done, Stopped, Serial, whole_run}
+
+abbrev w₀ : WorldData
+w₀ = record { status = 0; limit = 1024; count = 0 }
+
+abbrev echo : List Word → Pipeline
+echo words = record { stages = Simple (record { parts = Plain (codes "echo") ∷ [] } ∷ words) ∷ [] }
+
+-- echo a; echo 'b c'
+abbrev two : Script
+two = record {
+  lists = record { items = record { first = 0 } ∷ record { first = 1 } ∷ [] } ∷ [];
+  leaves = echo (record { parts = Plain (codes "a") ∷ [] } ∷ []) ∷ echo (record { parts = Single (codes "b c") ∷ [] } ∷ []) ∷ [];
+}
+
+abbrev nothing : Script
+nothing = record { lists = record { items = [] } ∷ []; leaves = [] }
+
+abbrev two_effects : List Effect
+two_effects = Emit One (97 ∷ 10 ∷ []) ∷ SetStatus 0 ∷ Emit One (98 ∷ 32 ∷ 99 ∷ 10 ∷ []) ∷ SetStatus 0 ∷ []
+
+two-runs : Serial two w₀ 10 ≡ record { effects = two_effects; ending = Done 0 }
+two-runs = refl
+
+two-output : output two_effects w₀ ≡ 97 ∷ 10 ∷ 98 ∷ 32 ∷ 99 ∷ 10 ∷ []
+two-output = refl
+
+two-errors : errors two_effects w₀ ≡ []
+two-errors = refl
+
+two-turns : (whole_run two w₀ 10).state.turns ≡ 8
+two-turns = refl
+
+two-leaves : (whole_run two w₀ 10).state.leaves ≡ 2
+two-leaves = refl
+
+-- one turn is not enough
+two-spent : Serial two w₀ 1 ≡ record { effects = Emit One (97 ∷ 10 ∷ []) ∷ SetStatus 0 ∷ []; ending = Stopped (Ran_out Turns) }
+two-spent = refl
+
+none-spent : Serial two w₀ 0 ≡ record { effects = []; ending = Stopped (Ran_out Turns) }
+none-spent = refl
+
+nothing-runs : Serial nothing w₀ 1 ≡ record { effects = SetStatus 0 ∷ []; ending = Done 0 }
+nothing-runs = refl
+
+-- the last effect that a world takes is the first of the script
+two-cut : Serial two (record w₀ { count = 4611686018427387903 }) 10 ≡ record { effects = Emit One (97 ∷ 10 ∷ []) ∷ []; ending = Stopped (Ran_out Bytes) }
+two-cut = refl
+
+applied : Applied two_effects w₀ ≡ record { status = 0; limit = 1024; count = 4 }
+applied = refl
+
+no-words : echo_line [] ≡ 10 ∷ []
+no-words = refl
+
+three-words : echo_line (codes "a" ∷ [] ∷ codes "b" ∷ []) ≡ codes "a  b" ++ 10 ∷ []
+three-words = refl
+
+quotes-removed : field (record { parts = Plain (codes "a") ∷ Single (codes " b") ∷ Plain (codes "c") ∷ [] }) ≡ codes "a bc"
+quotes-removed = refl
