@@ -1,2 +1,5 @@
 pub mod Stars
 pub mod Greatest
+pub mod Listed
+pub mod Tables
+pub mod Skipped
