@@ -3,3 +3,4 @@ pub mod Greatest
 pub mod Listed
 pub mod Tables
 pub mod Skipped
+pub mod Examples

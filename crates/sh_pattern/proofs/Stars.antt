@@ -1,6 +1,8 @@
 -- Why the first place is enough behind a star: what it leaves to the next star holds all that a later place leaves.
-use Rattle.std.proofs.Common.{◌≡◌, ℕ, Bool, true, false, ◌||◌, ◌&&◌, List, [], ◌∷◌, length, refl, sym, ◌∙◌, ap, inl, inr, arith}
-use Rattle.std.proofs.lemmas.Bool.{or_cases, or_left, or_right, and_parts, and_from, cases_Bool}
+use Rattle.std.proofs.Common.{◌≡◌, ℕ, suc, ◌-◌, ◌<◌, ◌≤◌, drop, Bool, true, false, ◌||◌, ◌&&◌, List, [], ◌∷◌, length, refl, sym, ◌∙◌, ap, inl, inr, arith}
+use Rattle.std.proofs.lemmas.Bool.{or_cases, or_left, or_right, or_parts, or_from, and_parts, false_from_ne_true, cases_lt}
+use Rattle.std.proofs.Math.Bool.{or-false}
+use Rattle.std.specs.List.{list_any}
 use Rattle.sh_pattern.specs.declared.item.Item.{Item}
 use Rattle.sh_pattern.specs.declared.item.Item.TheVariants.{Star, Any, Byte, OneOf}
 use Rattle.sh_pattern.specs.Match.{matched, front, some_rest, takes, is_star}
@@ -114,3 +116,40 @@ no-place items (b ∷ bs) e h = absurd (omega arith)
 
 pub at-place : (items : List Item) (rest : List ℕ) → matched items rest ≡ true → matched (Star ∷ items) rest ≡ true
 at-place items rest h = some_rest-here (matched items) rest h
+
+-- ---- behind the last star
+
+-- items without a star match texts of their number alone
+length-single : (items : List Item) (bs : List ℕ) → list_any is_star items ≡ false → matched items bs ≡ true → length bs ≡ length items
+length-single [] [] n h = refl
+length-single [] (b ∷ bs) n h = absurd cc
+length-single (item ∷ items) [] n h =
+    let single = or_parts (is_star item) (list_any is_star items) n in
+    let wrong : false ≡ true = sym (front-empty item (matched items) single.0) ∙ h in absurd cc
+length-single (item ∷ items) (b ∷ bs) n h =
+    let single = or_parts (is_star item) (list_any is_star items) n in
+    let rest = and_parts (takes item b) (matched items bs) (sym (front-takes item (matched items) b bs single.0) ∙ h) in
+    ap suc (length-single items bs single.1 rest.1)
+
+not-matched : (items : List Item) (bs : List ℕ) → list_any is_star items ≡ false → (length bs ≡ length items → ⊥) → matched items bs ≡ false
+not-matched items bs n h = false_from_ne_true (matched items bs) (λ m. h (length-single items bs n m))
+
+pub too-short : (items : List Item) (bs : List ℕ) → list_any is_star items ≡ false → length bs < length items → matched (Star ∷ items) bs ≡ false
+too-short items [] n h = not-matched items [] n (λ e. absurd (omega (arith, e)))
+too-short items (b ∷ bs) n h =
+    or_from (matched items (b ∷ bs)) (some_rest (matched items) bs) (not-matched items (b ∷ bs) n (λ e. absurd (omega (arith, e)))) (too-short items bs n (omega arith))
+
+pub only-end : (items : List Item) (bs : List ℕ) → list_any is_star items ≡ false → length items ≤ length bs →
+    matched (Star ∷ items) bs ≡ matched items (drop (length bs - length items) bs)
+only-end items [] n h = let zero-is : length {A = ℕ} [] - length items ≡ 0 = omega arith in
+    ap (λ (k : ℕ). matched items (drop k [])) (sym zero-is)
+only-end items (b ∷ bs) n h = elim (cases_lt (length bs) (length items)) [
+  inl short ↦ (let none : suc (length bs) - length items ≡ 0 = omega arith in
+    ap (λ (x : Bool). matched items (b ∷ bs) || x) (too-short items bs n short)
+    ∙ or-false (matched items (b ∷ bs))
+    ∙ ap (λ (k : ℕ). matched items (drop k (b ∷ bs))) (sym none))
+  | inr long ↦ (let one : suc (length bs) - length items ≡ suc (length bs - length items) = omega arith in
+    ap (λ (x : Bool). x || some_rest (matched items) bs) (not-matched items (b ∷ bs) n (λ e. absurd (omega (arith, e))))
+    ∙ only-end items bs n long
+    ∙ ap (λ (k : ℕ). matched items (drop k (b ∷ bs))) (sym one))
+]

@@ -1,7 +1,8 @@
 //! Whether a pattern matches a text. No call takes memory.
 
-ghost use Rattle.std.specs.Prelude.{◌≡◌, ◌∷◌};
-ghost use Rattle.sh_pattern.specs.Match.{matched};
+ghost use Rattle.std.specs.Prelude.{◌≡◌, ◌∷◌, false};
+ghost use Rattle.std.specs.List.{list_any};
+ghost use Rattle.sh_pattern.specs.Match.{matched, is_star};
 ghost use Rattle.sh_pattern.specs.Greedy.{answer, IsShorter, IsSettled};
 ghost use Rattle.sh_pattern.specs.declared.item.Item.TheVariants.{Star};
 
@@ -68,13 +69,43 @@ fn leftmost<'a>(items: &'a [Item], bytes: &'a [u8]) -> Found<'a>
     }
 }
 
+fn has_star(items: &[Item]) -> bool
+    ensures { result ≡ list_any is_star items.now }
+{
+    items.iter().any(|item| item.is_star())
+}
+
+/// Lets the items behind the last star go: they can only take the end of the text. It takes at most a step for each of them.
+fn at_end<'a>(items: &'a [Item], bytes: &'a [u8]) -> Found<'a>
+    requires { list_any is_star items.now ≡ false }
+    ensures here { answer result ≡ matched (Star ∷ items.now) bytes.now }
+    ensures shorter { IsShorter result items.now }
+{
+    if bytes.len() < items.len() {
+        return Found::Nothing;
+    }
+    front(items, bytes.split_at(bytes.len() - items.len()).1)
+}
+
+/// Lets the items behind a star go.
+fn behind_star<'a>(items: &'a [Item], bytes: &'a [u8]) -> Found<'a>
+    ensures here { answer result ≡ matched (Star ∷ items.now) bytes.now }
+    ensures shorter { IsShorter result items.now }
+{
+    if has_star(items) {
+        leftmost(items, bytes)
+    } else {
+        at_end(items, bytes)
+    }
+}
+
 /// Whether the pattern matches the whole text. Each item is tried at most once at each place of the text.
 pub fn matches(pattern: &Pattern, bytes: &[u8]) -> bool
     ensures { result ≡ matched pattern.now bytes.now }
 {
     let mut found = front(pattern.items(), bytes);
     'stars: while let Found::Star(items, rest) = found {
-        found = leftmost(items, rest);
+        found = behind_star(items, rest);
     }
     matches!(found, Found::End)
 }
