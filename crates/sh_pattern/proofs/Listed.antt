@@ -56,8 +56,8 @@ pub closes-cons : (x : ℕ × Bool) (r : List (ℕ × Bool)) → closes (x ∷ r
 closes-cons x r =
     is_some-cond (plain 93 x) ([], 1) (behind (ranges_of (element x r)) 1 (elements (more (element x r)) r))
     ∙ ap (λ (b : Bool). plain 93 x || b)
-        (ap (λ (o : Option (List ByteRange × ℕ)). is_some o) (taken x r)
-        ∙ is_some-behind (ranges_of (element x r)) (more (element x r) + 1) (elements 0 (drop (more (element x r)) r)))
+    (ap (λ (o : Option (List ByteRange × ℕ)). is_some o) (taken x r)
+    ∙ is_some-behind (ranges_of (element x r)) (more (element x r) + 1) (elements 0 (drop (more (element x r)) r)))
 
 none-from : {X : Type 0} (found : Option X) → is_some found ≡ false → found ≡ None
 none-from None h = refl
@@ -78,8 +78,8 @@ begins-length (b ∷ bs) (x ∷ r) h = let below = begins-length bs r ((and_part
 find-holds : {X : Type 0} (test : X → Bool) (xs : List X) (y : X) → find test xs ≡ Some y → test y ≡ true
 find-holds test [] y h = absurd cc
 find-holds test (x ∷ xs) y h = elim (cases_Bool (test x)) [
-  inl e ↦ (let found : Some x ≡ Some y = sym (cond-true (test x) (Some x) (find test xs) e) ∙ h in
-    let same : x ≡ y = cc in subst (λ z. test z ≡ true) same e)
+  | inl e ↦ (let found : Some x ≡ Some y = sym (cond-true (test x) (Some x) (find test xs) e) ∙ h in
+      let same : x ≡ y = cc in subst (λ z. test z ≡ true) same e)
   | inr e ↦ find-holds test xs y (sym (cond-false (test x) (Some x) (find test xs) e) ∙ h)
 ]
 

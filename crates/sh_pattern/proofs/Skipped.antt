@@ -14,7 +14,7 @@ pub item-read : (items : List Item) (rest after rest' : List (ℕ × Bool)) (x :
     (item, more) ≡ item_at x after → rest' ≡ drop more after → items ++ items_from 0 rest ≡ (items ++ item ∷ []) ++ items_from 0 rest'
 item-read items rest after rest' x item more s f d =
     let one : items_from 0 rest ≡ item ∷ items_from 0 rest' =
-        ap (λ (y : List (ℕ × Bool)). items_from 0 y) s
-        ∙ ap (λ (p : Item × ℕ). p.0 ∷ items_from p.1 after) (sym f)
-        ∙ ap (λ (is : List Item). item ∷ is) (items-skipped more after ∙ ap (λ (y : List (ℕ × Bool)). items_from 0 y) (sym d)) in
+    ap (λ (y : List (ℕ × Bool)). items_from 0 y) s
+    ∙ ap (λ (p : Item × ℕ). p.0 ∷ items_from p.1 after) (sym f)
+    ∙ ap (λ (is : List Item). item ∷ is) (items-skipped more after ∙ ap (λ (y : List (ℕ × Bool)). items_from 0 y) (sym d)) in
     ap (λ (is : List Item). items ++ is) one ∙ sym (append_assoc items (item ∷ []) (items_from 0 rest'))

@@ -51,7 +51,7 @@ some_rest-twice test (b ∷ bs) = both_true _ _
 some_rest-after : (item : Item) (test : List ℕ → Bool) (bs : List ℕ) → is_star item ≡ false → some_rest (front item test) bs ≡ true → some_rest test bs ≡ true
 some_rest-after item test [] n h = let wrong : false ≡ true = sym (front-empty item test n) ∙ h in absurd cc
 some_rest-after item test (b ∷ bs) n h = elim (or_cases _ _ h) [
-  inl x ↦ or_right (test (b ∷ bs)) _ (some_rest-here test bs ((and_parts (takes item b) (test bs) (sym (front-takes item test b bs n) ∙ x)).1))
+  | inl x ↦ or_right (test (b ∷ bs)) _ (some_rest-here test bs ((and_parts (takes item b) (test bs) (sym (front-takes item test b bs n) ∙ x)).1))
   | inr x ↦ or_right (test (b ∷ bs)) _ (some_rest-after item test bs n x)
 ]
 
@@ -59,7 +59,7 @@ some_rest-after item test (b ∷ bs) n h = elim (or_cases _ _ h) [
 pub later-takes : (item : Item) (items : List Item) (b : ℕ) (bs : List ℕ) → is_star item ≡ false →
     matched (Star ∷ item ∷ items) (b ∷ bs) ≡ true → matched (Star ∷ items) bs ≡ true
 later-takes item items b bs n h = elim (or_cases _ _ h) [
-  inl x ↦ some_rest-here (matched items) bs ((and_parts (takes item b) (matched items bs) (sym (front-takes item (matched items) b bs n) ∙ x)).1)
+  | inl x ↦ some_rest-here (matched items) bs ((and_parts (takes item b) (matched items bs) (sym (front-takes item (matched items) b bs n) ∙ x)).1)
   | inr x ↦ some_rest-after item (matched items) bs n x
 ]
 
@@ -86,7 +86,7 @@ pub step-later : (left items : List Item) (rest bs : List ℕ) (item : Item) (b 
     is_star item ≡ false → takes item b ≡ true → matched (Star ∷ left) rest ≡ true → matched (Star ∷ items) bs ≡ true
 step-later left items rest bs item b e f n t h =
     later-takes item items b bs n
-        (sym (ap (λ (x : List Item). matched (Star ∷ x) rest) e ∙ ap (λ (x : List ℕ). matched (Star ∷ item ∷ items) x) f) ∙ h)
+    (sym (ap (λ (x : List Item). matched (Star ∷ x) rest) e ∙ ap (λ (x : List ℕ). matched (Star ∷ item ∷ items) x) f) ∙ h)
 
 star-of : (item : Item) → is_star item ≡ true → item ≡ Star
 star-of Star h = refl
@@ -101,8 +101,8 @@ pub stop-settled : (orig left items : List Item) (bytes rest : List ℕ) (item :
 stop-settled orig left items bytes rest item e s here later =
     let f : left ≡ Star ∷ items = e ∙ ap (λ (x : Item). x ∷ items) (star-of item s) in
     settled orig items bytes rest
-        (here ∙ ap (λ (x : List Item). matched x rest) f)
-        (λ h. sym (ap (λ (x : List Item). matched (Star ∷ x) rest) f) ∙ later h)
+    (here ∙ ap (λ (x : List Item). matched x rest) f)
+    (λ h. sym (ap (λ (x : List Item). matched (Star ∷ x) rest) f) ∙ later h)
 
 -- the next place
 pub next-place : (items : List Item) (rest bs : List ℕ) (b : ℕ) → rest ≡ b ∷ bs → matched items rest ≡ false →
@@ -144,12 +144,12 @@ pub only-end : (items : List Item) (bs : List ℕ) → list_any is_star items �
 only-end items [] n h = let zero-is : length {A = ℕ} [] - length items ≡ 0 = omega arith in
     ap (λ (k : ℕ). matched items (drop k [])) (sym zero-is)
 only-end items (b ∷ bs) n h = elim (cases_lt (length bs) (length items)) [
-  inl short ↦ (let none : suc (length bs) - length items ≡ 0 = omega arith in
-    ap (λ (x : Bool). matched items (b ∷ bs) || x) (too-short items bs n short)
-    ∙ or-false (matched items (b ∷ bs))
-    ∙ ap (λ (k : ℕ). matched items (drop k (b ∷ bs))) (sym none))
+  | inl short ↦ (let none : suc (length bs) - length items ≡ 0 = omega arith in
+      ap (λ (x : Bool). matched items (b ∷ bs) || x) (too-short items bs n short)
+      ∙ or-false (matched items (b ∷ bs))
+      ∙ ap (λ (k : ℕ). matched items (drop k (b ∷ bs))) (sym none))
   | inr long ↦ (let one : suc (length bs) - length items ≡ suc (length bs - length items) = omega arith in
-    ap (λ (x : Bool). x || some_rest (matched items) bs) (not-matched items (b ∷ bs) n (λ e. absurd (omega (arith, e))))
-    ∙ only-end items bs n long
-    ∙ ap (λ (k : ℕ). matched items (drop k (b ∷ bs))) (sym one))
+      ap (λ (x : Bool). x || some_rest (matched items) bs) (not-matched items (b ∷ bs) n (λ e. absurd (omega (arith, e))))
+      ∙ only-end items bs n long
+      ∙ ap (λ (k : ℕ). matched items (drop k (b ∷ bs))) (sym one))
 ]

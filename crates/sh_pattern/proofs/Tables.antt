@@ -30,7 +30,7 @@ pub one-place : (i : ℕ) (table : List Bool) (text : List (ℕ × Bool)) (here 
     ((k : ℕ) → i + 1 ≤ k → k ≤ length text → get_or table k false ≡ closes (drop k text)) →
     (k : ℕ) → i ≤ k → k ≤ length text → get_or (set table i here) k false ≡ closes (drop k text)
 one-place i table text here w e each k h l = elim (cases_eq k i) [
-  inl same ↦ rw same (get_or-set_same table i here false w ∙ e)
+  | inl same ↦ rw same (get_or-set_same table i here false w ∙ e)
   | inr other ↦ (get_or-set_other table i k here false other ∙ each k (omega arith) l)
 ]
 
@@ -71,9 +71,9 @@ element-taken text rest after rest' x ranges ranges' e m found s p f g r d w l =
     let m-is : m ≡ here = g ∙ ap more f in
     let after-is : rest' ≡ drop here after = d ∙ ap (λ (k : ℕ). drop k after) m-is in
     let one : elements 0 rest ≡ behind (ranges_of (element x after)) (here + 1) (elements 0 (drop here after)) =
-        ap (λ (y : List (ℕ × Bool)). elements 0 y) s
-        ∙ cond-false (plain 93 x) (Some ([], 1)) (behind (ranges_of (element x after)) 1 (elements here after)) p
-        ∙ taken x after in
+    ap (λ (y : List (ℕ × Bool)). elements 0 y) s
+    ∙ cond-false (plain 93 x) (Some ([], 1)) (behind (ranges_of (element x after)) 1 (elements here after)) p
+    ∙ taken x after in
     let lists : ranges ++ ranges_of (element x after) ≡ ranges' = sym (r ∙ ap (λ (y : Element). ranges ++ ranges_of y) f) in
     let count : (here + 1) + n ≡ length text - length rest' = omega (arith, m-is, ap length s, ap length d, length-drop m after) in
     found

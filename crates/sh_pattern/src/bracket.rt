@@ -103,7 +103,11 @@ pub fn closings(alloc: Global, text: &[Symbol]) -> Result<Vec<bool>, AllocError>
 }
 
 /// The elements up to the closing bracket, if it comes, and how many bytes come up to it and with it.
-fn elements(alloc: Global, text: &[Symbol], closed: &[bool]) -> Result<Option<(Vec<ByteRange>, usize)>, AllocError>
+fn elements(
+    alloc: Global,
+    text: &[Symbol],
+    closed: &[bool],
+) -> Result<Option<(Vec<ByteRange>, usize)>, AllocError>
     requires { spec.IsClosings closed.now text.now }
     ensures found { IfOk result (λ found. MatchOption found (spec.elements_first text.now ≡ None) (λ p. spec.elements_first text.now ≡ Some (p.0.items, p.1))) }
     ensures within { IfOk result (λ found. IfSome found (λ p. p.1 ≤ length text.now)) }
@@ -132,7 +136,11 @@ fn elements(alloc: Global, text: &[Symbol], closed: &[bool]) -> Result<Option<(V
 }
 
 /// The bracket expression that comes, behind its opening bracket, and how many bytes it has there.
-pub fn bracket(alloc: Global, text: &[Symbol], closed: &[bool]) -> Result<Option<(Set, usize)>, AllocError>
+pub fn bracket(
+    alloc: Global,
+    text: &[Symbol],
+    closed: &[bool],
+) -> Result<Option<(Set, usize)>, AllocError>
     requires { spec.IsClosings closed.now text.now }
     ensures found { IfOk result (λ found. found ≡ spec.bracket text.now) }
     ensures within { IfOk result (λ found. IfSome found (λ p. p.1 ≤ length text.now)) }

@@ -40,7 +40,6 @@ const ALL: [Class; 12] = [
     Class::Xdigit,
 ];
 
-
 const DIGIT: ByteRange = ByteRange {
     low: b'0',
     high: b'9',
@@ -84,16 +83,73 @@ impl Class {
         match self {
             Class::Alnum => &[DIGIT, UPPER, LOWER],
             Class::Alpha => &[UPPER, LOWER],
-            Class::Blank => &[ByteRange { low: b'\t', high: b'\t' }, ByteRange { low: b' ', high: b' ' }],
-            Class::Cntrl => &[ByteRange { low: 0, high: 31 }, ByteRange { low: 127, high: 127 }],
+            Class::Blank => &[
+                ByteRange {
+                    low: b'\t',
+                    high: b'\t',
+                },
+                ByteRange {
+                    low: b' ',
+                    high: b' ',
+                },
+            ],
+            Class::Cntrl => &[
+                ByteRange { low: 0, high: 31 },
+                ByteRange {
+                    low: 127,
+                    high: 127,
+                },
+            ],
             Class::Digit => &[DIGIT],
-            Class::Graph => &[ByteRange { low: b'!', high: b'~' }],
+            Class::Graph => &[ByteRange {
+                low: b'!',
+                high: b'~',
+            }],
             Class::Lower => &[LOWER],
-            Class::Print => &[ByteRange { low: b' ', high: b'~' }],
-            Class::Punct => &[ByteRange { low: b'!', high: b'/' }, ByteRange { low: b':', high: b'@' }, ByteRange { low: b'[', high: b'`' }, ByteRange { low: b'{', high: b'~' }],
-            Class::Space => &[ByteRange { low: b'\t', high: b'\r' }, ByteRange { low: b' ', high: b' ' }],
+            Class::Print => &[ByteRange {
+                low: b' ',
+                high: b'~',
+            }],
+            Class::Punct => &[
+                ByteRange {
+                    low: b'!',
+                    high: b'/',
+                },
+                ByteRange {
+                    low: b':',
+                    high: b'@',
+                },
+                ByteRange {
+                    low: b'[',
+                    high: b'`',
+                },
+                ByteRange {
+                    low: b'{',
+                    high: b'~',
+                },
+            ],
+            Class::Space => &[
+                ByteRange {
+                    low: b'\t',
+                    high: b'\r',
+                },
+                ByteRange {
+                    low: b' ',
+                    high: b' ',
+                },
+            ],
             Class::Upper => &[UPPER],
-            Class::Xdigit => &[DIGIT, ByteRange { low: b'A', high: b'F' }, ByteRange { low: b'a', high: b'f' }],
+            Class::Xdigit => &[
+                DIGIT,
+                ByteRange {
+                    low: b'A',
+                    high: b'F',
+                },
+                ByteRange {
+                    low: b'a',
+                    high: b'f',
+                },
+            ],
         }
     }
 

@@ -33,7 +33,12 @@ fn unescaped(alloc: Global, field: &[Symbol]) -> Result<Vec<Symbol>, AllocError>
 }
 
 /// The item that begins with this byte, before these, and how many of these it has.
-fn item_at(alloc: Global, first: Symbol, rest: &[Symbol], closed: &[bool]) -> Result<(Item, usize), AllocError>
+fn item_at(
+    alloc: Global,
+    first: Symbol,
+    rest: &[Symbol],
+    closed: &[bool],
+) -> Result<(Item, usize), AllocError>
     requires { spec.IsClosings closed.now rest.now }
     ensures found { IfOk result (λ found. found ≡ spec.item_at first rest.now) }
     ensures within { IfOk result (λ found. found.1 ≤ length rest.now) }

@@ -6,8 +6,8 @@ use Rattle.sh_pattern.proofs.bracket.closings.Goals as goal
 pub closes-here-requires : goal.closes-here-requires
 closes-here-requires c =
     rw (c.split_at-in-places.ensures.back, c.as_slice.ensures.value, c.split_at.ensures.back)
-        (IsClosings-behind (c.places.at - 1) c.places.closed.items c.args.text.now (omega arith) c.places.invariant.len
-            (λ k h l. c.places.invariant.each k (omega arith) l))
+    (IsClosings-behind (c.places.at - 1) c.places.closed.items c.args.text.now (omega arith) c.places.invariant.len
+    (λ k h l. c.places.invariant.each k (omega arith) l))
 
 pub places-preserved : goal.places-preserved
 places-preserved c = record {

@@ -5,7 +5,7 @@ use Rattle.sh_pattern.proofs.bracket.elements.Goals as goal
 pub returns-then-not-closed-more-clause-found : goal.returns-then-not-closed-more-clause-found
 returns-then-not-closed-more-clause-found c =
     no-elements c.args.closed.now c.args.text.now c.in-Some.after.now c.in-Some.first.now c.at-element.result c.more.result c.in-Some.ensures.cases.0
-        c.requires c.at-element.ensures.element c.more.ensures (omega (arith, c.at-element.ensures.within, c.more.ensures)) c.if-not-closed-more.true
+    c.requires c.at-element.ensures.element c.more.ensures (omega (arith, c.at-element.ensures.within, c.more.ensures)) c.if-not-closed-more.true
 
 pub elements-preserved : goal.elements-preserved
 elements-preserved c = record {
