@@ -1,5 +1,5 @@
 -- The first number from above for which a test holds.
-use Rattle.std.proofs.Common.{◌≡◌, ℕ, ◌+◌, ◌-◌, ◌<◌, ◌≤◌, Bool, true, false, Some, None, sym, subst, arith}
+use Rattle.std.proofs.Common.{◌≡◌, ℕ, ◌+◌, ◌-◌, ◌<◌, ◌≤◌, Bool, true, false, Some, None, subst, arith}
 use Rattle.sh_pattern.specs.Match.{IsGreatest}
 
 from-above : (test : ℕ → Bool) (last after k : ℕ) → k ≤ last → last < k + after → ((j : ℕ) → j < after → test (last - j) ≡ false) → test k ≡ false

@@ -1,15 +1,12 @@
 -- The elements of bracket expressions, one after another.
-use Rattle.std.proofs.Common.{◌≡◌, ℕ, zero, suc, ◌+◌, ◌<◌, ◌≤◌, Bool, true, false, ◌||◌, List, [], ◌∷◌, ◌++◌, length, drop, Option, Some, None, refl, sym, ◌∙◌, ap, subst, inl, inr, append_assoc, append-nil, add_assoc, add-zero, add-one, arith, length-drop}
+use Rattle.std.proofs.Common.{◌≡◌, ℕ, zero, suc, ◌+◌, ◌≤◌, Bool, true, false, ◌||◌, List, [], ◌∷◌, ◌++◌, length, drop, Option, Some, None, refl, sym, ◌∙◌, ap, subst, inl, inr, append_assoc, append-nil, add_assoc, add-zero, add-one, arith}
 use Rattle.std.specs.Prelude.{is_some, cond}
 use Rattle.std.specs.List.{find}
 use Rattle.std.proofs.lemmas.Bool.{and_parts, cases_Bool, cond-true, cond-false}
-use Rattle.std.proofs.lemmas.List.{drop-drop}
 use Rattle.sh_pattern.specs.declared.item.ByteRange.{ByteRange}
 use Rattle.sh_pattern.specs.declared.class.Class.{Class}
-use Rattle.sh_pattern.specs.declared.bracket.Element.{Element}
-use Rattle.sh_pattern.specs.declared.bracket.Element.TheVariants as element
 use Rattle.sh_pattern.specs.Classes.{begins, written, class_at, all_classes}
-use Rattle.sh_pattern.specs.Items.{plain, range_end, range_or_byte, class_or, element, ranges_of, more, behind, elements, elements_first, closes}
+use Rattle.sh_pattern.specs.Items.{plain, element, ranges_of, more, behind, elements, elements_first, closes}
 
 -- ---- what is found behind ranges and bytes
 

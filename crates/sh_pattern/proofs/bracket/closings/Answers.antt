@@ -1,4 +1,4 @@
-use Rattle.std.proofs.Common.{◌-◌, ◌∙◌, length, arith, length-set, ap}
+use Rattle.std.proofs.Common.{◌-◌, ◌∙◌, arith, length-set, ap}
 use Rattle.sh_pattern.specs.Items.{closes}
 use Rattle.sh_pattern.proofs.Tables.{IsClosings-behind, one-place}
 use Rattle.sh_pattern.proofs.bracket.closings.Goals as goal

@@ -1,4 +1,4 @@
-use Rattle.std.proofs.Common.{◌≡◌, ◌∷◌, ℕ, ◌≤◌, true, length}
+use Rattle.std.proofs.Common.{◌≡◌, ◌∷◌, ◌≤◌, true, length}
 use Rattle.sh_pattern.specs.Match.{matched}
 use Rattle.sh_pattern.specs.declared.item.Item.TheVariants.{Star}
 use Rattle.sh_pattern.proofs.matching.front.Given as goal

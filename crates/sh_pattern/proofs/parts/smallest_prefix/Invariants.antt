@@ -1,4 +1,4 @@
-use Rattle.std.proofs.Common.{◌≡◌, ℕ, ◌<◌, ◌-◌, false, length}
+use Rattle.std.proofs.Common.{◌≡◌, ℕ, ◌<◌, false}
 use Rattle.sh_pattern.specs.Match.{matches_prefix}
 use Rattle.sh_pattern.proofs.parts.smallest_prefix.Given as goal
 

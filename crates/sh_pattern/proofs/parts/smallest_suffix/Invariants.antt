@@ -1,4 +1,4 @@
-use Rattle.std.proofs.Common.{◌≡◌, ℕ, ◌<◌, ◌-◌, false, length}
+use Rattle.std.proofs.Common.{◌≡◌, ℕ, ◌<◌, false}
 use Rattle.sh_pattern.specs.Match.{matches_suffix}
 use Rattle.sh_pattern.proofs.parts.smallest_suffix.Given as goal
 

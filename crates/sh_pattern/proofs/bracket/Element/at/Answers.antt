@@ -1,4 +1,4 @@
-use Rattle.std.proofs.Common.{sym, ◌∙◌}
+use Rattle.std.proofs.Common.{sym}
 use Rattle.sh_pattern.proofs.Listed.{class-within}
 use Rattle.sh_pattern.proofs.bracket.Element.at.Goals as goal
 
