@@ -1,0 +1,6 @@
+use Rattle.std.proofs.Common.{◌≡◌, ℕ, ◌<◌, false}
+use Rattle.sh_pattern.specs.Match.{matches_prefix}
+use Rattle.sh_pattern.proofs.parts.smallest_prefix.Given as goal
+
+abbrev pub invariant-loop-len : goal.invariant-loop-len
+invariant-loop-len l = (k : ℕ) → k < l.len → matches_prefix l.pattern l.bytes k ≡ false
