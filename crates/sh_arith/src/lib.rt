@@ -1,0 +1,18 @@
+//! Arithmetic expansion (POSIX.1-2017, XCU 2.6.4): expressions on signed numbers of 64 bits that wrap.
+#![tactic(auto)]
+
+mod calc;
+mod exec;
+mod instr;
+mod lex;
+mod names;
+mod number;
+mod stack;
+mod step;
+mod token;
+
+pub use exec::Run;
+pub use instr::{Frame, Instr, Now, Part, Rest};
+pub use names::{ArithErr, Assigned, Names};
+pub use stack::Stack;
+pub use token::{LexError, Logic, Math, Op, Sign, Token};
