@@ -74,7 +74,7 @@ pop f fs is d (colons {ts = ts}) h k = ap (λ (r : Rest). option_and_then (λ ne
 pop f fs is d (closes {ts = ts}) h k = ap (λ (r : Rest). option_and_then (λ next. run next ts) (close r)) (settle-pop 13 f fs is d (omega arith))
 
 -- a name that is not assigned to is read
-named : {n : ℕ} {ts : List Token} (p : ℕ) (x : List ℕ) (r : Rest) → Stops n ts → run (at (Named p x) r) ts ≡ run (at Have (with_value p x r)) ts
+pub named : {n : ℕ} {ts : List Token} (p : ℕ) (x : List ℕ) (r : Rest) → Stops n ts → run (at (Named p x) r) ts ≡ run (at Have (with_value p x r)) ts
 named p x r ends = refl
 named p x r (math m l) = refl
 named p x r (logic l k) = refl

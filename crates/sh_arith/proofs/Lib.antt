@@ -5,4 +5,6 @@ pub mod Law
 pub mod Levels
 pub mod Rooms
 pub mod Sound
+pub mod Text
+pub mod Viable
 pub mod Wraps

@@ -1,5 +1,6 @@
 pub mod Answers
 pub mod Calc
+pub mod Compiled
 pub mod Exec
 pub mod Grammar
 pub mod Lex
