@@ -1,19 +1,18 @@
 -- The instructions of an expression give what the expression gives.
 use Rattle.std.proofs.Common.{◌≡◌, ℕ, zero, suc, ℤ, pos, negsuc, List, [], ◌∷◌, ◌++◌, Option, Some, None, refl, sym, ap, ◌∙◌, append_assoc}
-use Rattle.std.specs.Prelude.{not}
+use Rattle.std.specs.Prelude.{not, Bool, true, false, if◌then◌else◌}
 use Rattle.sh_arith.specs.declared.token.Math.{Math}
 use Rattle.sh_arith.specs.declared.token.Logic.{Logic}
 use Rattle.sh_arith.specs.declared.token.Logic.TheVariants.{Both, Either}
 use Rattle.sh_arith.specs.declared.instr.Part.TheVariants as part
 use Rattle.sh_arith.specs.declared.instr.Instr.{Instr}
 use Rattle.sh_arith.specs.declared.instr.Instr.TheVariants as instr
-use Rattle.sh_arith.specs.declared.exec.Run.{Run}
 use Rattle.sh_arith.specs.Grammar.{Tree, number, read, signed, binary, logic, choice, assign}
 use Rattle.sh_arith.specs.Names.{Table}
 use Rattle.sh_arith.specs.Number.{value_of}
 use Rattle.sh_arith.specs.Machine.{emit}
-use Rattle.sh_arith.specs.Value.{Ended, value, stopped, and_then, number_at, calculate, calculated, with_sign, truth, is_zero, by_zero_or, decides, decided, store, evaluate}
-use Rattle.sh_arith.specs.Exec.{going, skipping, and_on, onto, exec}
+use Rattle.sh_arith.specs.Value.{Ended, value, stopped, and_then, number_at, Calculated, gives as given, fails, calculate, calculated, with_sign, truth, is_zero, by_zero_or, decides, decided, store, evaluate}
+use Rattle.sh_arith.specs.Exec.{Run, going, skipping, and_on, onto, exec, with_table, calculated_on}
 
 -- the instructions of an expression, before others
 abbrev pub code : Tree → List Instr → List Instr
@@ -84,10 +83,16 @@ put : (vs : List ℤ) (e : Ended) (k : List Instr) → and_on (onto vs e) (λ r 
 put vs (value v w) k = refl
 put vs (stopped c w) k = refl
 
+put_calculated : (vs : List ℤ) (c : Calculated) (w : Table) (k : List Instr) → and_on (with_table (calculated_on c vs) w) (λ r w. exec k r w) ≡ and_then (calculated c w) (λ v w. exec k (going (v ∷ vs)) w)
+put_calculated vs (given v) w k = refl
+put_calculated vs (fails f) w k = refl
+
+pick : (t : Bool) (x y : Run) (a b : Ended) (f : Run → Ended) (g : Ended → Ended) → f x ≡ g a → f y ≡ g b → f (if t then x else y) ≡ g (if t then a else b)
+pick true x y a b f g h k = h
+pick false x y a b f g h k = k
+
 fork : (u : ℤ) (x y : Run) (a b : Ended) (f : Run → Ended) (g : Ended → Ended) → f x ≡ g a → f y ≡ g b → f (by_zero_or u x y) ≡ g (by_zero_or u a b)
-fork (pos zero) x y a b f g h k = h
-fork (pos (suc n)) x y a b f g h k = k
-fork (negsuc n) x y a b f g h k = k
+fork u x y a b f g h k = pick (is_zero u) x y a b f g h k
 
 decide : (l : Logic) (u : ℤ) (x y : Run) (a b : Ended) (f : Run → Ended) (g : Ended → Ended) → f x ≡ g a → f y ≡ g b → f (decides l u x y) ≡ g (decides l u a b)
 decide Both u x y a b f g h k = fork u x y a b f g h k
@@ -101,7 +106,7 @@ gives (binary m a b) k vs w =
     gives a (code b (instr.Math m ∷ k)) vs w
     ∙ each (evaluate a w) _ (λ u w'. and_then (and_then (evaluate b w') (λ v w2. calculated (calculate m u v) w2)) (λ v w'. exec k (going (v ∷ vs)) w')) (λ u w'.
       gives b (instr.Math m ∷ k) (u ∷ vs) w'
-      ∙ each (evaluate b w') _ (λ v w2. and_then (calculated (calculate m u v) w2) (λ r w3. exec k (going (r ∷ vs)) w3)) (λ v w2. put vs (calculated (calculate m u v) w2) k)
+      ∙ each (evaluate b w') _ (λ v w2. and_then (calculated (calculate m u v) w2) (λ r w3. exec k (going (r ∷ vs)) w3)) (λ v w2. put_calculated vs (calculate m u v) w2 k)
       ∙ sym (assoc (evaluate b w') (λ v w2. calculated (calculate m u v) w2) (λ v w'. exec k (going (v ∷ vs)) w')))
     ∙ sym (assoc (evaluate a w) (λ u w'. and_then (evaluate b w') (λ v w2. calculated (calculate m u v) w2)) (λ v w'. exec k (going (v ∷ vs)) w'))
 gives (logic l a b) k vs w =

@@ -1,8 +1,10 @@
 pub mod Complete
 pub mod Decode
 pub mod Digits
+pub mod Forks
 pub mod Law
 pub mod Levels
+pub mod Progress
 pub mod Rooms
 pub mod Sound
 pub mod Text

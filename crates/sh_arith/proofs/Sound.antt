@@ -129,6 +129,21 @@ abbrev pub Next : List Token → Option State → List Token → Type 0
 Next first None ts = Unit {0}
 Next first (Some st) ts = AtState first st ts
 
+before-room : (first : List Token) (d : ℕ) (fs : List Frame) (is : List Instr) (ts : List Token) → Before first d fs is ts → d ≤ 100
+before-room first d fs is ts nothing = omega arith
+before-room first d fs is ts (sign i b) = before-room first _ _ _ _ b
+before-room first d fs is ts (maths b l above) = before-room first _ _ _ _ b
+before-room first d fs is ts (logic b l above) = before-room first _ _ _ _ b
+before-room first d fs is ts (open_bracket b) = let h = before-room first _ _ _ _ b in omega arith
+before-room first d fs is ts (question b l above) = before-room first _ _ _ _ b
+before-room first d fs is ts (otherwise b l m above) = before-room first _ _ _ _ b
+before-room first d fs is ts (assign b above) = before-room first _ _ _ _ b
+
+pub room-small : (first : List Token) (now : Now) (fs : List Frame) (is : List Instr) (d : ℕ) (ts : List Token) → At first now fs is d ts → d ≤ 100
+room-small first Want fs is d ts b = before-room first d fs is ts b
+room-small first (Named p x) fs is d ts b = before-room first d fs is _ b
+room-small first Have fs is d ts b = before-room first d fs _ _ b.before
+
 phrase_of : (first : List Token) (n d : ℕ) (fs : List Frame) (code : List Instr) (ts : List Token) → Operand first d fs code ts → Phrase first n d fs code ts
 phrase_of first n d fs code ts o = record {
   k = 0; within = omega arith; small = omega arith; is = o.is; mid = o.mid; tree = o.tree; before = o.before; level = o.level; above = above-zero fs; same = o.same;

@@ -7,10 +7,14 @@ use Rattle.sh_arith.specs.declared.instr.Part.{Part}
 use Rattle.sh_arith.specs.declared.instr.Part.TheVariants as part
 use Rattle.sh_arith.specs.declared.instr.Instr.{Instr}
 use Rattle.sh_arith.specs.declared.instr.Instr.TheVariants as instr
-use Rattle.sh_arith.specs.declared.exec.Run.{Run}
 use Rattle.sh_arith.specs.Names.{Table}
 use Rattle.sh_arith.specs.Number.{value_of}
-use Rattle.sh_arith.specs.Value.{Ended, value, stopped, Cause, and_then, number_at, Calculated, calculate, calculated, with_sign, truth, is_zero, by_zero_or, decides, decided, store}
+use Rattle.sh_arith.specs.Value.{Ended, value, stopped, Fault, Cause, fault, and_then, number_at, Calculated, gives, fails, calculate, calculated, with_sign, truth, is_zero, by_zero_or, decides, decided, store}
+
+-- the numbers, and where instructions are skipped, how many more parts have begun
+pub record Run : Type 0 where
+  pub skipped : Option ℕ
+  pub values : List ℤ
 
 abbrev pub run : Option ℕ → List ℤ → Run
 run depth vs = record { skipped = depth; values = vs }
@@ -33,25 +37,30 @@ below (v ∷ vs) = vs
 
 -- ---- skipping
 
-abbrev pub shallower : ℕ → List ℤ → Run
-shallower zero vs = going vs
-shallower (suc d) vs = skipping d vs
+abbrev pub shallower : ℕ → Option ℕ
+shallower zero = None
+shallower (suc d) = Some d
 
-abbrev pub resumed : ℕ → List ℤ → Run
-resumed zero vs = going vs
-resumed (suc d) vs = skipping (suc d) vs
+abbrev pub resumed : ℕ → Option ℕ
+resumed zero = None
+resumed (suc d) = Some (suc d)
 
-abbrev pub skip_one : Instr → ℕ → List ℤ → Run
-skip_one (instr.Begin p) d vs = skipping (suc d) vs
-skip_one instr.Otherwise d vs = resumed d vs
-skip_one (instr.End p) d vs = shallower d vs
-skip_one (instr.Number n) d vs = skipping d vs
-skip_one (instr.Read p x) d vs = skipping d vs
-skip_one (instr.Sign s) d vs = skipping d vs
-skip_one (instr.Math m) d vs = skipping d vs
-skip_one (instr.Store o p x) d vs = skipping d vs
+abbrev pub skip_one : Instr → ℕ → Option ℕ
+skip_one (instr.Begin p) d = Some (suc d)
+skip_one instr.Otherwise d = resumed d
+skip_one (instr.End p) d = shallower d
+skip_one (instr.Number n) d = Some d
+skip_one (instr.Read p x) d = Some d
+skip_one (instr.Sign s) d = Some d
+skip_one (instr.Math m) d = Some d
+skip_one (instr.Store o p x) d = Some d
 
--- ---- parts
+-- ---- instructions that meet no name
+
+-- how the numbers go on, or why they don't
+pub data Did : Type 0 where
+  went : Run → Did
+  failed : Fault → Did
 
 -- a part begins, or is skipped
 abbrev pub begin : Part → ℤ → List ℤ → Run
@@ -62,6 +71,23 @@ abbrev pub finished : Part → List ℤ → List ℤ
 finished (part.Logic l) vs = truth (not (is_zero (first vs))) ∷ below vs
 finished part.Choice vs = vs
 
+abbrev pub calculated_on : Calculated → List ℤ → Did
+calculated_on (gives v) vs = went (going (v ∷ vs))
+calculated_on (fails f) vs = failed f
+
+abbrev pub do_math : Math → List ℤ → Did
+do_math m vs = calculated_on (calculate m (first (below vs)) (first vs)) (below (below vs))
+
+abbrev pub plain : Instr → List ℤ → Did
+plain (instr.Number n) vs = went (going (n ∷ vs))
+plain (instr.Sign s) vs = went (going (with_sign s (first vs) ∷ below vs))
+plain (instr.Math m) vs = do_math m vs
+plain (instr.Begin p) vs = went (begin p (first vs) (below vs))
+plain instr.Otherwise vs = went (skipping 0 vs)
+plain (instr.End p) vs = went (going (finished p vs))
+plain (instr.Read p x) vs = went (going vs)
+plain (instr.Store o p x) vs = went (going vs)
+
 -- ---- one instruction
 
 -- How the numbers go on, and the table; or why they don't.
@@ -69,37 +95,38 @@ pub data Moved : Type 0 where
   on : Run → Table → Moved
   halted : Cause → Table → Moved
 
+abbrev pub with_table : Did → Table → Moved
+with_table (went r) w = on r w
+with_table (failed f) w = halted (fault f) w
+
 -- a number is put on the others
 abbrev pub onto : List ℤ → Ended → Moved
 onto vs (value v w) = on (going (v ∷ vs)) w
 onto vs (stopped c w) = halted c w
 
-abbrev pub math_onto : Calculated → List ℤ → Table → Moved
-math_onto c vs w = onto vs (calculated c w)
-
-abbrev pub do_math : Math → List ℤ → Table → Moved
-do_math m vs w = math_onto (calculate m (first (below vs)) (first vs)) (below (below vs)) w
-
-abbrev pub do_store : Option Math → ℕ → List ℕ → List ℤ → Table → Moved
-do_store None p x vs w = onto (below vs) (store p x (first vs) w)
-do_store (Some m) p x vs w = onto (below (below vs)) (and_then (calculated (calculate m (first (below vs)) (first vs)) w) (λ r w'. store p x r w'))
-
 abbrev pub do_read : ℕ → List ℕ → List ℤ → Table → Moved
 do_read p x vs w = onto vs (number_at p (value_of (w.value x)) w)
 
+abbrev pub store_calculated : Calculated → ℕ → List ℕ → Table → Ended
+store_calculated c p x w = and_then (calculated c w) (λ r w'. store p x r w')
+
+abbrev pub do_store : Option Math → ℕ → List ℕ → List ℤ → Table → Moved
+do_store None p x vs w = onto (below vs) (store p x (first vs) w)
+do_store (Some m) p x vs w = onto (below (below vs)) (store_calculated (calculate m (first (below vs)) (first vs)) p x w)
+
 abbrev pub do_one : Instr → List ℤ → Table → Moved
-do_one (instr.Number n) vs w = on (going (n ∷ vs)) w
 do_one (instr.Read p x) vs w = do_read p x vs w
-do_one (instr.Sign s) vs w = on (going (with_sign s (first vs) ∷ below vs)) w
-do_one (instr.Math m) vs w = do_math m vs w
-do_one (instr.Begin p) vs w = on (begin p (first vs) (below vs)) w
-do_one instr.Otherwise vs w = on (skipping 0 vs) w
-do_one (instr.End p) vs w = on (going (finished p vs)) w
 do_one (instr.Store o p x) vs w = do_store o p x vs w
+do_one (instr.Number n) vs w = with_table (plain (instr.Number n) vs) w
+do_one (instr.Sign s) vs w = with_table (plain (instr.Sign s) vs) w
+do_one (instr.Math m) vs w = with_table (plain (instr.Math m) vs) w
+do_one (instr.Begin p) vs w = with_table (plain (instr.Begin p) vs) w
+do_one instr.Otherwise vs w = with_table (plain instr.Otherwise vs) w
+do_one (instr.End p) vs w = with_table (plain (instr.End p) vs) w
 
 abbrev pub move_in : Option ℕ → Instr → List ℤ → Table → Moved
 move_in None i vs w = do_one i vs w
-move_in (Some d) i vs w = on (skip_one i d vs) w
+move_in (Some d) i vs w = on (run (skip_one i d) vs) w
 
 abbrev pub move : Instr → Run → Table → Moved
 move i r w = move_in r.skipped i r.values w

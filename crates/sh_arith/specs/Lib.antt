@@ -1,6 +1,7 @@
 pub mod Answers
 pub mod Calc
 pub mod Compiled
+pub mod Does
 pub mod Exec
 pub mod Grammar
 pub mod Lex

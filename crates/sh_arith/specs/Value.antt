@@ -128,9 +128,7 @@ calculated (fails f) w = stopped (fault f) w
 
 -- by whether a number is zero
 abbrev pub by_zero_or : {A : Type 0} → ℤ → A → A → A
-by_zero_or (pos zero) a b = a
-by_zero_or (pos (suc n)) a b = b
-by_zero_or (negsuc n) a b = b
+by_zero_or u a b = if is_zero u then a else b
 
 -- what `&&` and `||` are where the left side decides, and that it decides
 abbrev pub decides : {A : Type 0} → Logic → ℤ → A → A → A

@@ -12,7 +12,7 @@ mod stack;
 mod step;
 mod token;
 
-pub use exec::Run;
+pub use exec::NotDone;
 pub use instr::{Frame, Instr, Now, Part, Rest};
 pub use names::{ArithErr, Assigned, Names};
 pub use reading::ReadErr;

@@ -54,7 +54,7 @@ pub fn read(alloc: Global, text: &[u8]) -> Result<Items<Instr>, ReadErr>
             Err(LexError::End) => {
                 return match accept(rest, now)? {
                     Some(code) => Ok(code),
-                    None => Err(ReadErr::Bad(place)),
+                    None => Err(ReadErr::Bad(text.len())),
                 };
             }
         };
