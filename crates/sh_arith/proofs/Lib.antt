@@ -4,6 +4,8 @@ pub mod Digits
 pub mod Forks
 pub mod Law
 pub mod Levels
+pub mod Loop
+pub mod Moves
 pub mod Progress
 pub mod Rooms
 pub mod Sound

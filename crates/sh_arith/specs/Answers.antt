@@ -13,6 +13,9 @@ pub record Seen (S H : Type 0) : Type 1 where
   pub unmade_halts : S → S → List ℕ → ℤ → H → Type 0
   pub made_halts : S → S → List ℕ → ℤ → H → Type 0
 
+abbrev pub seen_by : {S H : Type 0} → (S → Table → Type 0) → (S → S → H → Type 0) → (S → S → List ℕ → ℤ → H → Type 0) → (S → S → List ℕ → ℤ → H → Type 0) → Seen S H
+seen_by a g u m = record { agrees = a; get_halts = g; unmade_halts = u; made_halts = m }
+
 -- how a cause is told
 abbrev pub told_by : {H : Type 0} → Cause → ArithErr H
 told_by (fault by_zero) = err.DivideByZero
@@ -57,7 +60,7 @@ Evaluates seen t result old new = (w' : Table) → seen.agrees new w' → (w : T
 abbrev pub MayCome : {S H : Type 0} → Seen S H → S → S → H → Type 0
 MayCome seen old new h = seen.get_halts old new h ⊎ ((x : List ℕ) × (v : ℤ) × (seen.unmade_halts old new x v h ⊎ seen.made_halts old new x v h))
 
-abbrev pub Caused : {S H : Type 0} → Seen S H → Result ℤ (ArithErr H) → S → S → Type 0
+abbrev pub Caused : {S H T : Type 0} → Seen S H → Result T (ArithErr H) → S → S → Type 0
 Caused seen (Err (err.Halt h)) old new = MayCome seen old new h
 Caused seen result old new = Unit {0}
 

@@ -110,9 +110,17 @@ do_read p x vs w = onto vs (number_at p (value_of (w.value x)) w)
 abbrev pub store_calculated : Calculated → ℕ → List ℕ → Table → Ended
 store_calculated c p x w = and_then (calculated c w) (λ r w'. store p x r w')
 
+-- the number that is stored, and the numbers below those that it is made of
+abbrev pub operand : Option Math → List ℤ → Calculated
+operand None vs = gives (first vs)
+operand (Some m) vs = calculate m (first (below vs)) (first vs)
+
+abbrev pub below_operand : Option Math → List ℤ → List ℤ
+below_operand None vs = below vs
+below_operand (Some m) vs = below (below vs)
+
 abbrev pub do_store : Option Math → ℕ → List ℕ → List ℤ → Table → Moved
-do_store None p x vs w = onto (below vs) (store p x (first vs) w)
-do_store (Some m) p x vs w = onto (below (below vs)) (store_calculated (calculate m (first (below vs)) (first vs)) p x w)
+do_store o p x vs w = onto (below_operand o vs) (store_calculated (operand o vs) p x w)
 
 abbrev pub do_one : Instr → List ℤ → Table → Moved
 do_one (instr.Read p x) vs w = do_read p x vs w

@@ -6,6 +6,7 @@ pub mod Exec
 pub mod Grammar
 pub mod Lex
 pub mod Machine
+pub mod Moves
 pub mod Names
 pub mod Number
 pub mod Stack

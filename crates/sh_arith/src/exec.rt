@@ -3,6 +3,7 @@
 ghost use Rattle.std.specs.Prelude.{◌≡◌, ◌+◌, ◌-◌, ◌^◌, ◌<◌, ◌≤◌, ◌∷◌, [], Ok, Err, None, Some, true, false, if◌then◌else◌, OnOk, IfSome, IfOk};
 ghost use Rattle.sh_arith.specs.Value as value;
 ghost use Rattle.sh_arith.specs.Exec as spec;
+ghost use Rattle.sh_arith.specs.Calc.{Gives};
 ghost use Rattle.sh_arith.specs.Does.{Begins, Does};
 
 use crate::calc::{NoNumber, calculate, is_zero, truth, with_sign};
@@ -81,7 +82,8 @@ fn decided(logic: Logic) -> i64
 
 #[tactic(auto, using(crate::proofs::Forks::decides_true, crate::proofs::Forks::decides_false))]
 fn begin_logic(logic: Logic, values: &mut Stack<i64>) -> Result<Option<usize>, AllocError>
-    ensures { Begins result values.new (value.decides logic (spec.first values.old) (spec.skipping 0 (value.decided logic ∷ spec.below values.old)) (spec.going (spec.below values.old))) }
+    ensures fresh { IfOk result (λ o. IfSome o (λ d. d ≡ 0)) }
+    ensures begins { Begins result values.new (value.decides logic (spec.first values.old) (spec.skipping 0 (value.decided logic ∷ spec.below values.old)) (spec.going (spec.below values.old))) }
 {
     let left = take(values);
     if !decides(logic, left) {
@@ -92,7 +94,8 @@ fn begin_logic(logic: Logic, values: &mut Stack<i64>) -> Result<Option<usize>, A
 }
 
 fn begin_choice(values: &mut Stack<i64>) -> Option<usize>
-    ensures { Begins (Ok result) values.new (value.by_zero_or (spec.first values.old) (spec.skipping 0 (spec.below values.old)) (spec.going (spec.below values.old))) }
+    ensures fresh { IfSome result (λ d. d ≡ 0) }
+    ensures begins { Begins (Ok result) values.new (value.by_zero_or (spec.first values.old) (spec.skipping 0 (spec.below values.old)) (spec.going (spec.below values.old))) }
 {
     let condition = take(values);
     if is_zero(condition) { Some(0) } else { None }
@@ -100,7 +103,8 @@ fn begin_choice(values: &mut Stack<i64>) -> Option<usize>
 
 /// A part begins, or is skipped.
 fn begin(part: Part, values: &mut Stack<i64>) -> Result<Option<usize>, AllocError>
-    ensures { Begins result values.new (spec.begin part (spec.first values.old) (spec.below values.old)) }
+    ensures begins { Begins result values.new (spec.begin part (spec.first values.old) (spec.below values.old)) }
+    ensures fresh { IfOk result (λ o. IfSome o (λ d. d ≡ 0)) }
 {
     match part {
         Part::Logic(logic) => begin_logic(logic, values),
@@ -121,7 +125,8 @@ fn finish(part: Part, values: &mut Stack<i64>) -> Result<(), AllocError>
 }
 
 fn do_math(math: Math, values: &mut Stack<i64>) -> Result<Option<usize>, NotDone>
-    ensures { Does result values.new (spec.do_math math values.old) }
+    ensures does { Does result values.new (spec.do_math math values.old) }
+    ensures fresh { IfOk result (λ o. IfSome o (λ d. d ≡ 0)) }
 {
     let right = take(values);
     let left = take(values);
@@ -136,7 +141,8 @@ fn do_math(math: Math, values: &mut Stack<i64>) -> Result<Option<usize>, NotDone
 
 /// Does an instruction that meets no name, and says how instructions are skipped after it.
 pub fn plain(instr: &Instr, values: &mut Stack<i64>) -> Result<Option<usize>, NotDone>
-    ensures { Does result values.new (spec.plain instr.now values.old) }
+    ensures does { Does result values.new (spec.plain instr.now values.old) }
+    ensures fresh { IfOk result (λ o. IfSome o (λ d. d ≡ 0)) }
 {
     match instr {
         Instr::Number(number) => {
@@ -160,5 +166,20 @@ pub fn plain(instr: &Instr, values: &mut Stack<i64>) -> Result<Option<usize>, No
         }
         Instr::Read(..) => Ok(None),
         Instr::Store(..) => Ok(None),
+    }
+}
+
+/// Takes the number that is stored.
+pub fn operand(op: Option<Math>, values: &mut Stack<i64>) -> Result<i64, NoNumber>
+    ensures number { Gives result (spec.operand op values.old) }
+    ensures below { values.new ≡ spec.below_operand op values.old }
+{
+    match op {
+        None => Ok(take(values)),
+        Some(math) => {
+            let right = take(values);
+            let left = take(values);
+            calculate(math, left, right)
+        }
     }
 }

@@ -2,6 +2,7 @@
 #![tactic(auto)]
 
 mod calc;
+mod evaluation;
 mod exec;
 mod instr;
 mod lex;
@@ -12,6 +13,7 @@ mod stack;
 mod step;
 mod token;
 
+pub use evaluation::evaluate;
 pub use exec::NotDone;
 pub use instr::{Frame, Instr, Now, Part, Rest};
 pub use names::{ArithErr, Assigned, Names};
