@@ -1,6 +1,7 @@
 pub mod Complete
 pub mod Decode
 pub mod Digits
+pub mod Ends
 pub mod Forks
 pub mod Law
 pub mod Levels

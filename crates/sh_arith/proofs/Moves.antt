@@ -5,10 +5,12 @@ use Rattle.sh_arith.specs.declared.names.ArithErr.{ArithErr}
 use Rattle.sh_arith.specs.declared.names.ArithErr.TheVariants as err
 use Rattle.sh_arith.specs.declared.names.Assigned.{Assigned}
 use Rattle.sh_arith.specs.declared.names.Assigned.TheVariants.{Yes, ReadOnly}
+use Rattle.sh_arith.specs.declared.instr.Instr.{Instr}
+use Rattle.sh_arith.specs.Does.{Tells}
 use Rattle.sh_arith.specs.Names as n
 use Rattle.sh_arith.specs.Names.{Table, to, assigned, Sets}
 use Rattle.sh_arith.specs.Value.{Ended, value, stopped, Cause, fault, no_number, is_read_only, by_zero, bad_shift, store, calculated, Calculated, gives, fails}
-use Rattle.sh_arith.specs.Exec.{Run, run, going, Moved, on, halted, onto, store_calculated, Did, went, failed, with_table}
+use Rattle.sh_arith.specs.Exec.{Run, run, going, Moved, on, halted, onto, store_calculated, Did, went, failed, with_table, plain, do_one}
 use Rattle.sh_arith.specs.Answers.{Seen, told_by, MayCome}
 use Rattle.sh_arith.specs.Moves as m
 use Rattle.sh_arith.specs.Moves.{MoveSays, ReadSays, StoreSays, Passes, SetHalts, HaltsAt, StopsAt, Between, tried_by}
@@ -87,13 +89,32 @@ read_moves seen err.BadShift vs left e old new w s h = absurd s
 read_moves seen err.NoMemory vs left e old new w s h = absurd s
 read_moves seen (err.Halt k) vs left e old new w s h = m.at_get (h k refl)
 
-pub store_between : (vs : List ℤ) (c : Calculated) (v r : ℤ) (p : ℕ) (x : List ℕ) (w w' : Table) → c ≡ gives v → store p x v w ≡ value r w' → Between (onto vs (store_calculated c p x w)) w w'
-store_between vs c v r p x w w' e s = value_between vs r (store_calculated c p x w) w w' (given c p x v w e ∙ s)
+pub store_between : (vs : List ℤ) (c : Calculated) (v u r : ℤ) (p : ℕ) (x : List ℕ) (w w' : Table) → c ≡ gives v → u ≡ v → store p x u w ≡ value r w' → Between (onto vs (store_calculated c p x w)) w w'
+store_between vs c v u r p x w w' e f s = value_between vs r (store_calculated c p x w) w w' (given c p x v w e ∙ ap (λ (k : ℤ). store p x k w) (sym f) ∙ s)
 
-pub store_moves : {S H : Type 0} (seen : Seen S H) (why : ArithErr H) (vs left : List ℤ) (c : Calculated) (p : ℕ) (x : List ℕ) (v : ℤ) (old new : S) (w w' : Table) → c ≡ gives v →
-    StoreSays seen (Err why) x v (store p x v w) old new w w' → MoveSays seen (Err why) left (onto vs (store_calculated c p x w)) old new w w'
-store_moves seen (err.Bad q) vs left c p x v old new w w' e s = stops_on vs (is_read_only q x v) (store_calculated c p x w) w' (err.Bad q) (given c p x v w e ∙ s) refl
-store_moves seen err.DivideByZero vs left c p x v old new w w' e s = absurd s
-store_moves seen err.BadShift vs left c p x v old new w w' e s = absurd s
-store_moves seen err.NoMemory vs left c p x v old new w w' e s = absurd s
-store_moves seen (err.Halt h) vs left c p x v old new w w' e s = subst (λ (k : Ended). HaltsAt seen (onto vs k) old new w h w') (sym (given c p x v w e)) (halts_on seen vs p x v old new w w' h s)
+moves-at : {S H : Type 0} (seen : Seen S H) (why : ArithErr H) (vs left : List ℤ) (p : ℕ) (x : List ℕ) (v : ℤ) (old new : S) (w w' : Table) →
+    StoreSays seen (Err why) x v (store p x v w) old new w w' → MoveSays seen (Err why) left (onto vs (store p x v w)) old new w w'
+moves-at seen (err.Bad q) vs left p x v old new w w' s = stops_on vs (is_read_only q x v) (store p x v w) w' (err.Bad q) s refl
+moves-at seen err.DivideByZero vs left p x v old new w w' s = absurd s
+moves-at seen err.BadShift vs left p x v old new w w' s = absurd s
+moves-at seen err.NoMemory vs left p x v old new w w' s = absurd s
+moves-at seen (err.Halt h) vs left p x v old new w w' s = halts_on seen vs p x v old new w w' h s
+
+pub store_moves : {S H : Type 0} (seen : Seen S H) (why : ArithErr H) (vs left : List ℤ) (c : Calculated) (p : ℕ) (x : List ℕ) (v u : ℤ) (old new : S) (w w' : Table) → c ≡ gives v → u ≡ v →
+    StoreSays seen (Err why) x u (store p x u w) old new w w' → MoveSays seen (Err why) left (onto vs (store_calculated c p x w)) old new w w'
+store_moves seen why vs left c p x v u old new w w' e f s =
+    subst (λ (k : Ended). MoveSays seen (Err why) left (onto vs k) old new w w') (ap (λ (k : ℤ). store p x k w) f ∙ sym (given c p x v w e)) (moves-at seen why vs left p x u old new w w' s)
+
+tells-moves : {S H : Type 0} (seen : Seen S H) (r : Result (Option ℕ) (ArithErr H)) (vs : List ℤ) (d : Did) (old : S) (w : Table) → Tells r vs d → MoveSays seen r vs (with_table d w) old old w w
+tells-moves seen (Ok o) vs d old w t = went_on d (run o vs) w t
+tells-moves seen (Err (err.Halt h)) vs d old w t = absurd t
+tells-moves seen (Err (err.Bad p)) vs d old w t = absurd t
+tells-moves seen (Err err.NoMemory) vs d old w t = m.not_yet
+tells-moves seen (Err err.DivideByZero) vs d old w t = fails_by_zero d w t
+tells-moves seen (Err err.BadShift) vs d old w t = fails_shift d w t
+
+pub plain_moves : {S H : Type 0} (seen : Seen S H) (i j : Instr) (r : Result (Option ℕ) (ArithErr H)) (vs vs' : List ℤ) (old : S) (w : Table) → i ≡ j → do_one j vs w ≡ with_table (plain j vs) w →
+    Tells r vs' (plain i vs) → MoveSays seen r vs' (do_one i vs w) old old w w
+plain_moves seen i j r vs vs' old w e f t =
+    let g : with_table (plain i vs) w ≡ do_one i vs w = ap (λ (k : Instr). with_table (plain k vs) w) e ∙ sym f ∙ ap (λ (k : Instr). do_one k vs w) (sym e) in
+    subst (λ (k : Moved). MoveSays seen r vs' k old old w w) g (tells-moves seen r vs' (plain i vs) old w t)

@@ -26,6 +26,11 @@ going = run None
 abbrev pub skipping : ℕ → List ℤ → Run
 skipping d = run (Some d)
 
+-- how many more parts have begun
+abbrev pub depth_of : Option ℕ → ℕ
+depth_of None = 0
+depth_of (Some d) = d
+
 -- the number on top, and those below it
 abbrev pub first : List ℤ → ℤ
 first [] = pos 0

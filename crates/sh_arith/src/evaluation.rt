@@ -1,6 +1,6 @@
 //! The value of an expression.
 
-ghost use Rattle.std.specs.Prelude.{◌≡◌, ◌<◌, ◌⊎◌, ℕ, ℤ, List, [], Err, IfOk, IfSome};
+ghost use Rattle.std.specs.Prelude.{◌≡◌, ◌<◌, ◌≤◌, ◌+◌, ◌-◌, ◌^◌, ◌⊎◌, ℕ, ℤ, List, [], Err, IfOk, IfSome};
 ghost use Rattle.sh_arith.specs.Answers.{Answers, Caused, MayCome, Says, seen_by};
 ghost use Rattle.sh_arith.specs.Does.{Tells};
 ghost use Rattle.sh_arith.specs.Exec as spec;
@@ -51,7 +51,7 @@ fn store_name<N: Names>(names: &mut N, place: usize, name: &Text, number: i64) -
 
 fn do_read<N: Names>(names: &mut N, place: usize, name: &Text, values: &mut Stack<i64>) -> Result<Option<usize>, ArithErr<N::Halt>>
     ensures moves { (w : Table) → N.agrees names.new w → N.agrees names.old w × MoveSays (seen_by N.agrees N.get_halts N.unmade_halts N.made_halts) result values.new (spec.do_read place name.now values.old w) names.old names.new w w }
-    ensures fresh { IfOk result (λ o. IfSome o (λ d. d ≡ 0)) }
+    ensures fresh { IfOk result (λ o. spec.depth_of o ≡ 0) }
     ensures halts { (h : N.Halt) → result ≡ Err (ArithErr.Halt h) → MayCome (seen_by N.agrees N.get_halts N.unmade_halts N.made_halts) names.old names.new h }
     ensures passes { Passes (seen_by N.agrees N.get_halts N.unmade_halts N.made_halts) names.old names.new }
 {
@@ -66,7 +66,7 @@ fn do_read<N: Names>(names: &mut N, place: usize, name: &Text, values: &mut Stac
 
 fn do_store<N: Names>(names: &mut N, op: Option<Math>, place: usize, name: &Text, values: &mut Stack<i64>) -> Result<Option<usize>, ArithErr<N::Halt>>
     ensures moves { (w' : Table) → N.agrees names.new w' → (w : Table) × N.agrees names.old w × MoveSays (seen_by N.agrees N.get_halts N.unmade_halts N.made_halts) result values.new (spec.do_store op place name.now values.old w) names.old names.new w w' }
-    ensures fresh { IfOk result (λ o. IfSome o (λ d. d ≡ 0)) }
+    ensures fresh { IfOk result (λ o. spec.depth_of o ≡ 0) }
     ensures halts { (h : N.Halt) → result ≡ Err (ArithErr.Halt h) → MayCome (seen_by N.agrees N.get_halts N.unmade_halts N.made_halts) names.old names.new h }
     ensures passes { Passes (seen_by N.agrees N.get_halts N.unmade_halts N.made_halts) names.old names.new }
 {
@@ -86,7 +86,7 @@ fn do_store<N: Names>(names: &mut N, op: Option<Math>, place: usize, name: &Text
 /// An instruction that meets no name.
 fn without_names<H>(instr: &Instr, values: &mut Stack<i64>) -> Result<Option<usize>, ArithErr<H>>
     ensures tells { Tells result values.new (spec.plain instr.now values.old) }
-    ensures fresh { IfOk result (λ o. IfSome o (λ d. d ≡ 0)) }
+    ensures fresh { IfOk result (λ o. spec.depth_of o ≡ 0) }
 {
     match plain(instr, values) {
         Ok(skipped) => Ok(skipped),
@@ -99,7 +99,7 @@ fn without_names<H>(instr: &Instr, values: &mut Stack<i64>) -> Result<Option<usi
 /// Does an instruction, and says how instructions are skipped after it.
 fn one<N: Names>(instr: &Instr, values: &mut Stack<i64>, names: &mut N) -> Result<Option<usize>, ArithErr<N::Halt>>
     ensures moves { (w' : Table) → N.agrees names.new w' → (w : Table) × N.agrees names.old w × MoveSays (seen_by N.agrees N.get_halts N.unmade_halts N.made_halts) result values.new (spec.do_one instr.now values.old w) names.old names.new w w' }
-    ensures fresh { IfOk result (λ o. IfSome o (λ d. d ≡ 0)) }
+    ensures fresh { IfOk result (λ o. spec.depth_of o ≡ 0) }
     ensures halts { (h : N.Halt) → result ≡ Err (ArithErr.Halt h) → MayCome (seen_by N.agrees N.get_halts N.unmade_halts N.made_halts) names.old names.new h }
     ensures passes { Passes (seen_by N.agrees N.get_halts N.unmade_halts N.made_halts) names.old names.new }
 {
@@ -115,6 +115,20 @@ fn one<N: Names>(instr: &Instr, values: &mut Stack<i64>, names: &mut N) -> Resul
     }
 }
 
+/// Does an instruction or skips it, and says how instructions are skipped after it.
+fn turn<N: Names>(instr: &Instr, skipped: Option<usize>, values: &mut Stack<i64>, names: &mut N) -> Result<Option<usize>, ArithErr<N::Halt>>
+    requires { spec.depth_of skipped < 2 ^ 64 - 1 }
+    ensures moves { (w' : Table) → N.agrees names.new w' → (w : Table) × N.agrees names.old w × MoveSays (seen_by N.agrees N.get_halts N.unmade_halts N.made_halts) result values.new (spec.move_in skipped instr.now values.old w) names.old names.new w w' }
+    ensures depth { IfOk result (λ o. spec.depth_of o ≤ spec.depth_of skipped + 1) }
+    ensures halts { (h : N.Halt) → result ≡ Err (ArithErr.Halt h) → MayCome (seen_by N.agrees N.get_halts N.unmade_halts N.made_halts) names.old names.new h }
+    ensures passes { Passes (seen_by N.agrees N.get_halts N.unmade_halts N.made_halts) names.old names.new }
+{
+    match skipped {
+        Some(depth) => Ok(skip_one(instr, depth)),
+        None => one(instr, values, names),
+    }
+}
+
 /// Does all instructions, each of which is met once.
 fn run_all<N: Names>(alloc: Global, code: &[Instr], names: &mut N) -> Result<i64, ArithErr<N::Halt>>
     ensures says { (w' : Table) → N.agrees names.new w' → (w : Table) × N.agrees names.old w × Says (seen_by N.agrees N.get_halts N.unmade_halts N.made_halts) result (spec.exec code.now (spec.going []) w) names.old names.new w w' }
@@ -123,12 +137,9 @@ fn run_all<N: Names>(alloc: Global, code: &[Instr], names: &mut N) -> Result<i64
     let mut values = Stack::new(alloc);
     let mut skipped = None;
     'code: for instr in code {
-        match skipped {
-            Some(depth) => skipped = skip_one(instr, depth),
-            None => match one(instr, &mut values, names) {
-                Ok(then) => skipped = then,
-                Err(why) => return Err(why),
-            },
+        match turn(instr, skipped, &mut values, names) {
+            Ok(then) => skipped = then,
+            Err(why) => return Err(why),
         }
     }
     Ok(take(&mut values))

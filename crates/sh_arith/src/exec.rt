@@ -45,7 +45,7 @@ pub fn take(values: &mut Stack<i64>) -> i64
 pub fn skip_one(instr: &Instr, depth: usize) -> Option<usize>
     requires { depth < 2 ^ 64 - 1 }
     ensures skips { result ≡ spec.skip_one instr.now depth }
-    ensures depth { IfSome result (λ d. d ≤ depth + 1) }
+    ensures depth { spec.depth_of result ≤ depth + 1 }
 {
     match instr {
         Instr::Begin(_) => Some(depth + 1),
@@ -82,7 +82,7 @@ fn decided(logic: Logic) -> i64
 
 #[tactic(auto, using(crate::proofs::Forks::decides_true, crate::proofs::Forks::decides_false))]
 fn begin_logic(logic: Logic, values: &mut Stack<i64>) -> Result<Option<usize>, AllocError>
-    ensures fresh { IfOk result (λ o. IfSome o (λ d. d ≡ 0)) }
+    ensures fresh { IfOk result (λ o. spec.depth_of o ≡ 0) }
     ensures begins { Begins result values.new (value.decides logic (spec.first values.old) (spec.skipping 0 (value.decided logic ∷ spec.below values.old)) (spec.going (spec.below values.old))) }
 {
     let left = take(values);
@@ -94,7 +94,7 @@ fn begin_logic(logic: Logic, values: &mut Stack<i64>) -> Result<Option<usize>, A
 }
 
 fn begin_choice(values: &mut Stack<i64>) -> Option<usize>
-    ensures fresh { IfSome result (λ d. d ≡ 0) }
+    ensures fresh { spec.depth_of result ≡ 0 }
     ensures begins { Begins (Ok result) values.new (value.by_zero_or (spec.first values.old) (spec.skipping 0 (spec.below values.old)) (spec.going (spec.below values.old))) }
 {
     let condition = take(values);
@@ -104,7 +104,7 @@ fn begin_choice(values: &mut Stack<i64>) -> Option<usize>
 /// A part begins, or is skipped.
 fn begin(part: Part, values: &mut Stack<i64>) -> Result<Option<usize>, AllocError>
     ensures begins { Begins result values.new (spec.begin part (spec.first values.old) (spec.below values.old)) }
-    ensures fresh { IfOk result (λ o. IfSome o (λ d. d ≡ 0)) }
+    ensures fresh { IfOk result (λ o. spec.depth_of o ≡ 0) }
 {
     match part {
         Part::Logic(logic) => begin_logic(logic, values),
@@ -126,7 +126,7 @@ fn finish(part: Part, values: &mut Stack<i64>) -> Result<(), AllocError>
 
 fn do_math(math: Math, values: &mut Stack<i64>) -> Result<Option<usize>, NotDone>
     ensures does { Does result values.new (spec.do_math math values.old) }
-    ensures fresh { IfOk result (λ o. IfSome o (λ d. d ≡ 0)) }
+    ensures fresh { IfOk result (λ o. spec.depth_of o ≡ 0) }
 {
     let right = take(values);
     let left = take(values);
@@ -142,7 +142,7 @@ fn do_math(math: Math, values: &mut Stack<i64>) -> Result<Option<usize>, NotDone
 /// Does an instruction that meets no name, and says how instructions are skipped after it.
 pub fn plain(instr: &Instr, values: &mut Stack<i64>) -> Result<Option<usize>, NotDone>
     ensures does { Does result values.new (spec.plain instr.now values.old) }
-    ensures fresh { IfOk result (λ o. IfSome o (λ d. d ≡ 0)) }
+    ensures fresh { IfOk result (λ o. spec.depth_of o ≡ 0) }
 {
     match instr {
         Instr::Number(number) => {

@@ -9,4 +9,4 @@ returns-in-Err-push-clause-moves g c = λ w a. let s = c.in-Ok.ensures.reads w a
 pub returns-in-Err-clause-moves : goal.returns-in-Err-clause-moves
 returns-in-Err-clause-moves g c = λ w a.
     let s = c.in-Err.ensures.reads w a in
-    (s.0, read_moves (seen_by g.N.Names.agrees g.N.Names.get_halts g.N.Names.unmade_halts g.N.Names.made_halts) c.in-Err.why _ _ _ _ _ s.1 c.in-Err.ensures.halts)
+    (s.0, read_moves (seen_by g.N.Names.agrees g.N.Names.get_halts g.N.Names.unmade_halts g.N.Names.made_halts) c.in-Err.why c.args.values.now c.args.values.now _ _ _ _ s.1 c.in-Err.ensures.halts)

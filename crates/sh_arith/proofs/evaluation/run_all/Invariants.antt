@@ -1,6 +1,6 @@
 use Rattle.std.proofs.Common.{◌≡◌, ℕ, ◌≤◌, List, drop}
-use Rattle.std.specs.Prelude.{IfSome}
 use Rattle.sh_arith.specs.Answers.{seen_by}
+use Rattle.sh_arith.specs.Exec.{depth_of}
 use Rattle.sh_arith.specs.Moves.{Passes}
 use Rattle.sh_arith.proofs.Loop.{Known}
 use Rattle.sh_arith.proofs.evaluation.run_all.Given as goal
@@ -11,5 +11,5 @@ invariant-code g l =
     record {
       known : Known seen l.code (drop l.instr-index l.code) l.skipped l.values l.fn.names l.names;
       passes : Passes seen l.fn.names l.names;
-      depth : IfSome l.skipped (λ d. d ≤ l.instr-index);
+      depth : depth_of l.skipped ≤ l.instr-index;
     }
