@@ -1,12 +1,12 @@
 -- What the grammar derives, the machine reads.
-use Rattle.std.proofs.Common.{◌≡◌, ℕ, zero, suc, ◌+◌, ◌<◌, ◌≤◌, Bool, true, false, List, [], ◌∷◌, ◌++◌, Option, Some, None, refl, sym, ap, subst, ◌∙◌, arith}
+use Rattle.std.proofs.Common.{◌≡◌, ℕ, suc, ◌≤◌, Bool, List, [], ◌∷◌, ◌++◌, Option, Some, None, refl, ap, ◌∙◌, arith}
 use Rattle.std.proofs.lemmas.Bool.{le-leb, lt-leb}
-use Rattle.std.specs.Prelude.{nat_le, if◌then◌else◌, option_and_then}
+use Rattle.std.specs.Prelude.{if◌then◌else◌, option_and_then}
 use Rattle.sh_arith.specs.declared.token.Math.{Math}
 use Rattle.sh_arith.specs.declared.token.Logic.{Logic}
 use Rattle.sh_arith.specs.declared.token.Op.TheVariants as op
 use Rattle.sh_arith.specs.declared.token.Token.{Token}
-use Rattle.sh_arith.specs.declared.token.Token.TheVariants.{Number, Name, Operator}
+use Rattle.sh_arith.specs.declared.token.Token.TheVariants.{Operator}
 use Rattle.sh_arith.specs.declared.token.Sign.{Sign}
 use Rattle.sh_arith.specs.declared.instr.Part.TheVariants as part
 use Rattle.sh_arith.specs.declared.instr.Instr.{Instr}
@@ -17,7 +17,7 @@ use Rattle.sh_arith.specs.declared.instr.Now.TheVariants.{Want, Named, Have}
 use Rattle.sh_arith.specs.declared.instr.Rest.{Rest}
 use Rattle.sh_arith.specs.Grammar as g
 use Rattle.sh_arith.specs.Grammar.{tier, logic_tier, Tree, Level, IsSign, Parses, most_open}
-use Rattle.sh_arith.specs.Machine.{rest, State, at, strength, finish, emit, read_first, settle, holds, run, start, want, with_value, whole, colon, close, then_code}
+use Rattle.sh_arith.specs.Machine.{rest, at, strength, finish, emit, read_first, settle, run, start, want, with_value, whole, colon, close, then_code}
 use Rattle.sh_arith.proofs.Levels.{tier_small, logic_small, Above, above-less, above-holds}
 
 pub settle-pop : (n : ℕ) (f : Frame) (fs : List Frame) (is : List Instr) (d : ℕ) → strength f ≤ n → settle n (f ∷ fs) is d ≡ settle n fs (is ++ finish f) d

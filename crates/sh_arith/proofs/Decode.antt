@@ -1,12 +1,10 @@
 -- The instructions of an expression tell the expression.
-use Rattle.std.proofs.Common.{◌≡◌, ℕ, List, [], ◌∷◌, ◌++◌, Option, Some, None, refl, sym, ap, ◌∙◌}
-use Rattle.sh_arith.specs.declared.token.Math.{Math}
+use Rattle.std.proofs.Common.{◌≡◌, List, [], ◌∷◌, ◌++◌, Some, None, refl, sym, ap, ◌∙◌}
 use Rattle.sh_arith.specs.declared.instr.Part.TheVariants as part
 use Rattle.sh_arith.specs.declared.instr.Instr.{Instr}
 use Rattle.sh_arith.specs.declared.instr.Instr.TheVariants as instr
-use Rattle.sh_arith.specs.declared.instr.Frame.TheVariants as frame
 use Rattle.sh_arith.specs.Grammar.{Tree, number, read, signed, binary, logic, choice, assign}
-use Rattle.sh_arith.specs.Machine.{emit, finish, read_first}
+use Rattle.sh_arith.specs.Machine.{emit}
 
 abbrev top : List Tree → Tree
 top [] = read 0 []
@@ -53,7 +51,7 @@ decode (choice c a b) is =
     let two = emit a one ++ instr.Otherwise ∷ [] in
     snoc (emit b two) [] (instr.End part.Choice)
     ∙ ap (λ (ts : List Tree). put ts (instr.End part.Choice)) (decode b two ∙ ap (λ (ts : List Tree). b ∷ ts) (snoc (emit a one) [] instr.Otherwise ∙ decode a one
-      ∙ ap (λ (ts : List Tree). a ∷ ts) (snoc (emit c is) [] (instr.Begin part.Choice) ∙ decode c is)))
+    ∙ ap (λ (ts : List Tree). a ∷ ts) (snoc (emit c is) [] (instr.Begin part.Choice) ∙ decode c is)))
 decode (assign None p x t) is = snoc (emit t is) [] (instr.Store None p x) ∙ ap (λ (ts : List Tree). put ts (instr.Store None p x)) (decode t is)
 decode (assign (Some m) p x t) is =
     let mid = is ++ instr.Read p x ∷ [] in

@@ -1,5 +1,5 @@
 -- The digits of a number, one after another.
-use Rattle.std.proofs.Common.{◌≡◌, ℕ, zero, suc, ◌+◌, ◌*◌, ◌<◌, ◌≤◌, Bool, true, false, List, [], ◌∷◌, length, drop, get_or, Option, Some, None, refl, sym, ap, ◌∙◌, arith, add-one, drop-cons, length-drop}
+use Rattle.std.proofs.Common.{◌≡◌, ℕ, ◌+◌, ◌*◌, ◌<◌, ◌≤◌, Bool, true, false, List, [], ◌∷◌, length, drop, get_or, Option, Some, None, refl, sym, ap, ◌∙◌, arith, add-one, drop-cons, length-drop}
 use Rattle.std.proofs.Math.Nat.{mul-le-mul_left}
 use Rattle.std.proofs.lemmas.Bool.{le-leb, leb-true, leb-false, lt-leb}
 use Rattle.std.specs.Prelude.{nat_le, nat_lt, if◌then◌else◌}
@@ -22,9 +22,11 @@ digit-none base limit sofar b bs h e = by (nat_lt (worth b) base) e
   where
     n : ℕ
     n = sofar * base + worth b
+
     over : (t : Bool) → nat_le n limit ≡ t → (if t then Some n else None) ≡ None → within limit (digits base n bs) ≡ None
     over true e f = absurd cc
     over false e f = beyond base limit n bs h (leb-false n limit e)
+
     by : (t : Bool) → (if t then within limit (Some n) else None) ≡ None → within limit (if t then digits base n bs else None) ≡ None
     by true e = over (nat_le n limit) refl e
     by false e = refl
@@ -34,9 +36,11 @@ digit-some base limit sofar b m bs e = by (nat_lt (worth b) base) e
   where
     n : ℕ
     n = sofar * base + worth b
+
     under : (t : Bool) → nat_le n limit ≡ t → (if t then Some n else None) ≡ Some m → (within limit (digits base n bs) ≡ within limit (digits base m bs)) × (m ≤ limit)
     under true e f = let same : n ≡ m = cc in (ap (λ (k : ℕ). within limit (digits base k bs)) same, let le = leb-true n limit e in omega arith)
     under false e f = absurd cc
+
     by : (t : Bool) → (if t then within limit (Some n) else None) ≡ Some m → (within limit (if t then digits base n bs else None) ≡ within limit (digits base m bs)) × (m ≤ limit)
     by true e = under (nat_le n limit) refl e
     by false e = absurd cc

@@ -1,9 +1,9 @@
 -- What a test decides.
-use Rattle.std.proofs.Common.{◌≡◌, ℤ, Bool, true, false, refl, ap}
+use Rattle.std.proofs.Common.{◌≡◌, ℤ, Bool, true, false, refl}
 use Rattle.std.specs.Prelude.{if◌then◌else◌}
 use Rattle.sh_arith.specs.declared.token.Logic.{Logic}
 use Rattle.sh_arith.specs.declared.token.Logic.TheVariants.{Both, Either}
-use Rattle.sh_arith.specs.Value.{is_zero, by_zero_or, decides}
+use Rattle.sh_arith.specs.Value.{is_zero, decides}
 
 -- by_zero_or and decides, for runs
 by : {A : Type 0} (t : Bool) (x y : A) → (if t then true else false) ≡ true → (if t then x else y) ≡ x

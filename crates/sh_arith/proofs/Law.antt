@@ -1,7 +1,6 @@
 -- The instructions of an expression give what the expression gives.
-use Rattle.std.proofs.Common.{◌≡◌, ℕ, zero, suc, ℤ, pos, negsuc, List, [], ◌∷◌, ◌++◌, Option, Some, None, refl, sym, ap, ◌∙◌, append_assoc}
+use Rattle.std.proofs.Common.{◌≡◌, ℕ, suc, ℤ, List, [], ◌∷◌, ◌++◌, Some, None, refl, sym, ap, ◌∙◌, append_assoc}
 use Rattle.std.specs.Prelude.{not, Bool, true, false, if◌then◌else◌}
-use Rattle.sh_arith.specs.declared.token.Math.{Math}
 use Rattle.sh_arith.specs.declared.token.Logic.{Logic}
 use Rattle.sh_arith.specs.declared.token.Logic.TheVariants.{Both, Either}
 use Rattle.sh_arith.specs.declared.instr.Part.TheVariants as part
@@ -105,9 +104,9 @@ gives (signed s t) k vs w = gives t (instr.Sign s ∷ k) vs w ∙ sym (assoc (ev
 gives (binary m a b) k vs w =
     gives a (code b (instr.Math m ∷ k)) vs w
     ∙ each (evaluate a w) _ (λ u w'. and_then (and_then (evaluate b w') (λ v w2. calculated (calculate m u v) w2)) (λ v w'. exec k (going (v ∷ vs)) w')) (λ u w'.
-      gives b (instr.Math m ∷ k) (u ∷ vs) w'
-      ∙ each (evaluate b w') _ (λ v w2. and_then (calculated (calculate m u v) w2) (λ r w3. exec k (going (r ∷ vs)) w3)) (λ v w2. put_calculated vs (calculate m u v) w2 k)
-      ∙ sym (assoc (evaluate b w') (λ v w2. calculated (calculate m u v) w2) (λ v w'. exec k (going (v ∷ vs)) w')))
+    gives b (instr.Math m ∷ k) (u ∷ vs) w'
+    ∙ each (evaluate b w') _ (λ v w2. and_then (calculated (calculate m u v) w2) (λ r w3. exec k (going (r ∷ vs)) w3)) (λ v w2. put_calculated vs (calculate m u v) w2 k)
+    ∙ sym (assoc (evaluate b w') (λ v w2. calculated (calculate m u v) w2) (λ v w'. exec k (going (v ∷ vs)) w')))
     ∙ sym (assoc (evaluate a w) (λ u w'. and_then (evaluate b w') (λ v w2. calculated (calculate m u v) w2)) (λ v w'. exec k (going (v ∷ vs)) w'))
 gives (logic l a b) k vs w =
     let j = instr.End (part.Logic l) in
@@ -115,9 +114,9 @@ gives (logic l a b) k vs w =
     let right = λ (w' : Table). and_then (evaluate b w') (λ v w2. value (truth (not (is_zero v))) w2) in
     gives a (instr.Begin (part.Logic l) ∷ code b (j ∷ k)) vs w
     ∙ each (evaluate a w) _ (λ u w'. and_then (decides l u (value (decided l) w') (right w')) end) (λ u w'.
-      decide l u (skipping 0 (decided l ∷ vs)) (going vs) (value (decided l) w') (right w') (λ r. exec (code b (j ∷ k)) r w') (λ e. and_then e end)
-        (skips b (j ∷ k) 0 (decided l ∷ vs) w')
-        (gives b (j ∷ k) vs w' ∙ sym (assoc (evaluate b w') (λ v w2. value (truth (not (is_zero v))) w2) end)))
+    decide l u (skipping 0 (decided l ∷ vs)) (going vs) (value (decided l) w') (right w') (λ r. exec (code b (j ∷ k)) r w') (λ e. and_then e end)
+    (skips b (j ∷ k) 0 (decided l ∷ vs) w')
+    (gives b (j ∷ k) vs w' ∙ sym (assoc (evaluate b w') (λ v w2. value (truth (not (is_zero v))) w2) end)))
     ∙ sym (assoc (evaluate a w) (λ u w'. decides l u (value (decided l) w') (right w')) end)
 gives (choice c a b) k vs w =
     let j = instr.End part.Choice in
@@ -125,9 +124,9 @@ gives (choice c a b) k vs w =
     let rest = code b (j ∷ k) in
     gives c (instr.Begin part.Choice ∷ code a (instr.Otherwise ∷ rest)) vs w
     ∙ each (evaluate c w) _ (λ u w'. and_then (by_zero_or u (evaluate b w') (evaluate a w')) end) (λ u w'.
-      fork u (skipping 0 vs) (going vs) (evaluate b w') (evaluate a w') (λ r. exec (code a (instr.Otherwise ∷ rest)) r w') (λ e. and_then e end)
-        (skips a (instr.Otherwise ∷ rest) 0 vs w' ∙ gives b (j ∷ k) vs w')
-        (gives a (instr.Otherwise ∷ rest) vs w' ∙ each (evaluate a w') _ end (λ v w2. skips b (j ∷ k) 0 (v ∷ vs) w2)))
+    fork u (skipping 0 vs) (going vs) (evaluate b w') (evaluate a w') (λ r. exec (code a (instr.Otherwise ∷ rest)) r w') (λ e. and_then e end)
+    (skips a (instr.Otherwise ∷ rest) 0 vs w' ∙ gives b (j ∷ k) vs w')
+    (gives a (instr.Otherwise ∷ rest) vs w' ∙ each (evaluate a w') _ end (λ v w2. skips b (j ∷ k) 0 (v ∷ vs) w2)))
     ∙ sym (assoc (evaluate c w) (λ u w'. by_zero_or u (evaluate b w') (evaluate a w')) end)
 gives (assign None p x t) k vs w =
     let end = λ (v : ℤ) (w' : Table). exec k (going (v ∷ vs)) w' in
@@ -141,9 +140,9 @@ gives (assign (Some m) p x t) k vs w =
     let first = number_at p (value_of (w.value x)) w in
     put vs first (code t (j ∷ k))
     ∙ each first _ (λ u w'. and_then (and_then (evaluate t w') (λ v w2. last u v w2)) end) (λ u w'.
-      gives t (j ∷ k) (u ∷ vs) w'
-      ∙ each (evaluate t w') _ (λ v w2. and_then (last u v w2) end) (λ v w2. put vs (last u v w2) k)
-      ∙ sym (assoc (evaluate t w') (λ v w2. last u v w2) end))
+    gives t (j ∷ k) (u ∷ vs) w'
+    ∙ each (evaluate t w') _ (λ v w2. and_then (last u v w2) end) (λ v w2. put vs (last u v w2) k)
+    ∙ sym (assoc (evaluate t w') (λ v w2. last u v w2) end))
     ∙ sym (assoc first (λ u w'. and_then (evaluate t w') (λ v w2. last u v w2)) end)
 
 end-is : (e : Ended) → and_then e (λ v w. value v w) ≡ e

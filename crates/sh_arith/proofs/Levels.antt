@@ -1,21 +1,15 @@
 -- Levels, strengths, and what comes off the stack.
-use Rattle.std.proofs.Common.{◌≡◌, ℕ, zero, suc, ◌+◌, ◌<◌, ◌≤◌, Bool, true, false, List, [], ◌∷◌, ◌++◌, Option, Some, None, refl, sym, ap, subst, ◌∙◌, arith}
-use Rattle.std.proofs.lemmas.Bool.{le-leb, leb-true, leb-false, lt-leb}
-use Rattle.std.specs.Prelude.{nat_le, if◌then◌else◌, option_and_then}
+use Rattle.std.proofs.Common.{◌≡◌, ℕ, zero, suc, ◌+◌, ◌<◌, ◌≤◌, true, List, [], ◌∷◌, refl, subst, arith}
+use Rattle.std.proofs.lemmas.Bool.{le-leb, leb-true}
 use Rattle.sh_arith.specs.declared.token.Math.{Math}
 use Rattle.sh_arith.specs.declared.token.Math.TheVariants as math
 use Rattle.sh_arith.specs.declared.token.Logic.{Logic}
 use Rattle.sh_arith.specs.declared.token.Logic.TheVariants as logic
-use Rattle.sh_arith.specs.declared.token.Op.TheVariants as op
 use Rattle.sh_arith.specs.declared.token.Token.{Token}
-use Rattle.sh_arith.specs.declared.token.Token.TheVariants as token
-use Rattle.sh_arith.specs.declared.instr.Instr.{Instr}
 use Rattle.sh_arith.specs.declared.instr.Frame.{Frame}
 use Rattle.sh_arith.specs.declared.instr.Frame.TheVariants as frame
-use Rattle.sh_arith.specs.declared.instr.Now.TheVariants.{Want, Named, Have}
 use Rattle.sh_arith.specs.Grammar.{tier, logic_tier, Tree, Level, tighter}
-use Rattle.sh_arith.specs.declared.instr.Rest.{Rest}
-use Rattle.sh_arith.specs.Machine.{rest, State, at, strength, finish, settle, holds, run, with_value, whole, colon, close, then_code}
+use Rattle.sh_arith.specs.Machine.{strength, holds}
 
 pub tier_small : (m : Math) → tier m ≤ 7
 tier_small math.Times = omega arith

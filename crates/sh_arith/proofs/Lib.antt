@@ -2,6 +2,7 @@ pub mod Complete
 pub mod Decode
 pub mod Digits
 pub mod Ends
+pub mod Examples
 pub mod Forks
 pub mod Law
 pub mod Levels

@@ -1,5 +1,5 @@
 -- From one instruction to all.
-use Rattle.std.proofs.Common.{◌≡◌, ℕ, zero, suc, ◌+◌, ◌<◌, ℤ, Bool, true, false, List, [], ◌∷◌, ◌++◌, length, drop, get_or, Option, Some, None, Result, Ok, Err, refl, sym, ap, subst, ◌∙◌, append_assoc, add-one, drop-cons, inl, inr}
+use Rattle.std.proofs.Common.{◌≡◌, ℕ, suc, ◌+◌, ◌<◌, ℤ, Bool, true, false, List, [], ◌∷◌, ◌++◌, length, drop, get_or, Option, Some, None, Result, Ok, Err, refl, sym, ap, subst, ◌∙◌, append_assoc, add-one, drop-cons}
 use Rattle.std.specs.Prelude.{if◌then◌else◌}
 use Rattle.sh_arith.specs.declared.instr.Instr.{Instr}
 use Rattle.sh_arith.specs.declared.instr.Instr.TheVariants as instr
@@ -7,7 +7,7 @@ use Rattle.sh_arith.specs.declared.names.ArithErr.{ArithErr}
 use Rattle.sh_arith.specs.declared.names.ArithErr.TheVariants as err
 use Rattle.sh_arith.specs.Names.{Table, Assignment, to, assigned, Assigns}
 use Rattle.sh_arith.specs.Number.{value_of}
-use Rattle.sh_arith.specs.Value.{Ended, value, stopped, Cause, fault, no_number, is_read_only, number_at, Calculated, gives, fails, store, tried}
+use Rattle.sh_arith.specs.Value.{Ended, value, stopped, is_read_only, number_at, Calculated, gives, fails, tried}
 use Rattle.sh_arith.specs.Exec.{Run, run, going, Moved, on, halted, and_on, onto, Did, went, failed, with_table, plain, do_one, move_in, store_calculated, operand, below_operand, exec}
 use Rattle.sh_arith.specs.Answers as answers
 use Rattle.sh_arith.specs.Answers.{Seen, Says, Partly, Stops, Halts, MayCome, Caused}

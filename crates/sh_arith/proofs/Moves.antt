@@ -1,16 +1,15 @@
 -- From what names answer to what an instruction does.
-use Rattle.std.proofs.Common.{◌≡◌, ℕ, ℤ, Bool, true, false, List, [], ◌∷◌, ◌++◌, Option, Some, None, Result, Ok, Err, refl, sym, ap, subst, ◌∙◌, ◌⊎◌, inl, inr}
+use Rattle.std.proofs.Common.{◌≡◌, ℕ, ℤ, Bool, true, false, List, [], ◌∷◌, ◌++◌, Option, Result, Ok, Err, refl, sym, ap, subst, ◌∙◌, ◌⊎◌, inr}
 use Rattle.std.specs.Prelude.{if◌then◌else◌}
 use Rattle.sh_arith.specs.declared.names.ArithErr.{ArithErr}
 use Rattle.sh_arith.specs.declared.names.ArithErr.TheVariants as err
-use Rattle.sh_arith.specs.declared.names.Assigned.{Assigned}
 use Rattle.sh_arith.specs.declared.names.Assigned.TheVariants.{Yes, ReadOnly}
 use Rattle.sh_arith.specs.declared.instr.Instr.{Instr}
 use Rattle.sh_arith.specs.Does.{Tells}
 use Rattle.sh_arith.specs.Names as n
 use Rattle.sh_arith.specs.Names.{Table, to, assigned, Sets}
-use Rattle.sh_arith.specs.Value.{Ended, value, stopped, Cause, fault, no_number, is_read_only, by_zero, bad_shift, store, calculated, Calculated, gives, fails}
-use Rattle.sh_arith.specs.Exec.{Run, run, going, Moved, on, halted, onto, store_calculated, Did, went, failed, with_table, plain, do_one}
+use Rattle.sh_arith.specs.Value.{Ended, value, stopped, Cause, fault, no_number, is_read_only, by_zero, bad_shift, store, Calculated, gives}
+use Rattle.sh_arith.specs.Exec.{Run, run, going, Moved, on, onto, store_calculated, Did, went, failed, with_table, plain, do_one}
 use Rattle.sh_arith.specs.Answers.{Seen, told_by, MayCome}
 use Rattle.sh_arith.specs.Moves as m
 use Rattle.sh_arith.specs.Moves.{MoveSays, ReadSays, StoreSays, Passes, SetHalts, HaltsAt, StopsAt, Between, tried_by}
@@ -35,7 +34,7 @@ pub set_halted : {S H : Type 0} (seen : Seen S H) (old new : S) (x y : List ℕ)
     Sets (seen.unmade_halts old new y u) (seen.made_halts old new y u) (Err h) y u w w' → SetHalts seen x v old new w h w'
 set_halted seen old new x y u v h w w' e f s =
     set_halts seen old new x v h w w' (subst (λ (k : ℤ). Sets (seen.unmade_halts old new x k) (seen.made_halts old new x k) (Err h) x k w w') f
-      (subst (λ (k : List ℕ). Sets (seen.unmade_halts old new k u) (seen.made_halts old new k u) (Err h) k u w w') e s))
+    (subst (λ (k : List ℕ). Sets (seen.unmade_halts old new k u) (seen.made_halts old new k u) (Err h) k u w w') e s))
 
 -- ---- an instruction
 

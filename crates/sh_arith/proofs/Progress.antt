@@ -1,5 +1,5 @@
 -- A token takes bytes.
-use Rattle.std.proofs.Common.{◌≡◌, ℕ, suc, ◌+◌, ◌-◌, ◌<◌, ◌≤◌, Bool, true, false, cond, ℤ, List, [], ◌∷◌, length, take, drop, Option, Some, None, refl, subst, arith, length-drop}
+use Rattle.std.proofs.Common.{◌≡◌, ℕ, suc, ◌+◌, ◌<◌, ◌≤◌, Bool, true, false, cond, ℤ, List, [], ◌∷◌, length, take, drop, Option, Some, None, refl, subst, arith, length-drop}
 use Rattle.std.specs.Prelude.{◌==◌, if◌then◌else◌}
 use Rattle.std.specs.List.{prefix_len}
 use Rattle.sh_arith.specs.declared.token.Math.{Math}
@@ -10,7 +10,7 @@ use Rattle.sh_arith.specs.declared.token.Op.TheVariants as op
 use Rattle.sh_arith.specs.declared.token.Token.{Token}
 use Rattle.sh_arith.specs.declared.token.Token.TheVariants.{Name}
 use Rattle.sh_arith.specs.Number.{decimal, word_byte, constant, within, positive, greatest}
-use Rattle.sh_arith.specs.Lex.{Lexed, got, done, bad, sign, or_assign, with_equals, angle, ampersand, bar, single, joined, operator, number, run_at, token_at, gap, skip, place, lex}
+use Rattle.sh_arith.specs.Lex.{Lexed, got, done, bad, sign, or_assign, with_equals, angle, ampersand, bar, single, joined, operator, number, run_at, token_at}
 
 pick : {A : Type 0} (P : A → Type 0) (b : Bool) (x y : A) → (b ≡ true → P x) → P y → P (if b then x else y)
 pick P true x y f g = f refl

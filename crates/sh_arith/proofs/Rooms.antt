@@ -1,6 +1,6 @@
 -- What comes off the stack changes no room.
 use Rattle.std.proofs.Common.{◌≡◌, ℕ, suc, Bool, true, false, List, [], ◌∷◌, ◌++◌, refl, sym, ap, ◌∙◌, arith}
-use Rattle.std.proofs.lemmas.Bool.{le-leb, leb-true, leb-false, lt-leb}
+use Rattle.std.proofs.lemmas.Bool.{leb-false}
 use Rattle.std.specs.Prelude.{nat_le, if◌then◌else◌}
 use Rattle.sh_arith.proofs.Levels.{holds-above}
 use Rattle.sh_arith.proofs.Complete.{settle-pop, settle-stay}

@@ -1,5 +1,5 @@
 -- What the machine reads, the grammar derives.
-use Rattle.std.proofs.Common.{◌≡◌, ℕ, zero, suc, ◌+◌, ◌-◌, ◌<◌, ◌≤◌, Bool, true, false, List, [], ◌∷◌, ◌++◌, Option, Some, None, refl, sym, ap, subst, ◌∙◌, arith}
+use Rattle.std.proofs.Common.{◌≡◌, ℕ, zero, suc, ◌-◌, ◌<◌, ◌≤◌, Bool, true, false, List, [], ◌∷◌, ◌++◌, Option, Some, None, refl, sym, ap, subst, ◌∙◌, arith}
 use Rattle.std.proofs.lemmas.Bool.{leb-true, leb-false}
 use Rattle.std.specs.Prelude.{nat_le, if◌then◌else◌, option_and_then}
 use Rattle.sh_arith.specs.declared.token.Math.{Math}
@@ -22,7 +22,7 @@ use Rattle.sh_arith.specs.Grammar as g
 use Rattle.sh_arith.specs.Grammar.{tier, logic_tier, Tree, Level, IsSign, Parses, most_open}
 use Rattle.sh_arith.specs.Machine as machine
 use Rattle.sh_arith.specs.Machine.{rest, State, at, strength, finish, emit, read_first, settle, settled, holds, run, want, with_value, whole, whole_of, colon, colon_on, close, close_on, then_code, step_now, want_op, have_op, named_op, open_in, accept_now}
-use Rattle.sh_arith.proofs.Levels.{tier_small, logic_small, Above, above-less, above-zero, above-ten, holds-above, lift-by}
+use Rattle.sh_arith.proofs.Levels.{tier_small, logic_small, Above, above-zero, above-ten, holds-above, lift-by}
 
 pub lift : (k : ℕ) (n : ℕ) {d : ℕ} {ts us : List Token} {t : Tree} → k ≤ n → Level k d ts us t → Level n d ts us t
 lift k n {d} {ts} {us} {t} h l = subst (λ (j : ℕ). Level j d ts us t) (omega arith) (lift-by (n - k) l)
@@ -64,25 +64,66 @@ pub record Phrase (first : List Token) (n d : ℕ) (fs : List Frame) (code : Lis
 popped : (first : List Token) (d : ℕ) (f : Frame) (fs : List Frame) (is : List Instr) (mid ts : List Token) (t : Tree) (k : ℕ) →
     Before first d (f ∷ fs) is mid → Level k d mid ts t → k < strength f → strength f ≤ 13 → Phrase first (strength f) d fs (emit t is ++ finish f) ts
 popped first d (frame.Sign s) fs is mid ts t k (sign i b) l h small = record {
-  k = 0; within = omega arith; small = omega arith; is = is; mid = _; tree = g.signed s t; before = b; level = g.signs i (lift k 0 (omega arith) l); above = above-zero fs; same = refl;
+  k = 0;
+  within = omega arith;
+  small = omega arith;
+  is = is;
+  mid = _;
+  tree = g.signed s t;
+  before = b;
+  level = g.signs i (lift k 0 (omega arith) l);
+  above = above-zero fs;
+  same = refl;
 }
 popped first d (frame.Math m) fs c mid ts t k (maths {is = is} {mid = start} {a = a} b l above) r h small = record {
-  k = suc (tier m); within = omega arith; small = omega (arith, tier_small m); is = is; mid = start; tree = g.binary m a t; before = b;
-  level = g.operators m l (lift k (tier m) (omega arith) r); above = above; same = refl;
+  k = suc (tier m);
+  within = omega arith;
+  small = omega (arith, tier_small m);
+  is = is;
+  mid = start;
+  tree = g.binary m a t;
+  before = b;
+  level = g.operators m l (lift k (tier m) (omega arith) r);
+  above = above;
+  same = refl;
 }
 popped first d (frame.Logic m) fs c mid ts t k (logic {is = is} {mid = start} {a = a} b l above) r h small = record {
-  k = suc (logic_tier m); within = omega arith; small = omega (arith, logic_small m); is = is; mid = start; tree = g.logic m a t; before = b;
-  level = g.logics m l (lift k (logic_tier m) (omega arith) r); above = above; same = refl;
+  k = suc (logic_tier m);
+  within = omega arith;
+  small = omega (arith, logic_small m);
+  is = is;
+  mid = start;
+  tree = g.logic m a t;
+  before = b;
+  level = g.logics m l (lift k (logic_tier m) (omega arith) r);
+  above = above;
+  same = refl;
 }
 popped first d frame.Open fs is mid ts t k b l h small = absurd (omega arith)
 popped first d frame.Then fs is mid ts t k b l h small = absurd (omega arith)
 popped first d frame.Otherwise fs code mid ts t k (otherwise {is = is} {mid = start} {c = c} {a} b l m above) r h small = record {
-  k = 11; within = omega arith; small = omega arith; is = is; mid = start; tree = g.choice c a t; before = b;
-  level = g.choices l m (lift k 11 (omega arith) r); above = above; same = refl;
+  k = 11;
+  within = omega arith;
+  small = omega arith;
+  is = is;
+  mid = start;
+  tree = g.choice c a t;
+  before = b;
+  level = g.choices l m (lift k 11 (omega arith) r);
+  above = above;
+  same = refl;
 }
 popped first d (frame.Assign o p x) fs code mid ts t k (assign {is = is} b above) l h small = record {
-  k = 12; within = omega arith; small = omega arith; is = is; mid = _; tree = g.assign o p x t; before = b;
-  level = g.assigns (lift k 12 (omega arith) l); above = above; same = refl;
+  k = 12;
+  within = omega arith;
+  small = omega arith;
+  is = is;
+  mid = _;
+  tree = g.assign o p x t;
+  before = b;
+  level = g.assigns (lift k 12 (omega arith) l);
+  above = above;
+  same = refl;
 }
 
 -- after all that a token takes off
@@ -96,9 +137,18 @@ settle-sound first n d (f ∷ fs) code ts h p = by (nat_le (strength f) n) refl 
   where
     next : Phrase first (strength f) d fs (emit p.tree p.is ++ finish f) ts → strength f ≤ n → Phrase first n d fs (code ++ finish f) ts
     next q le = record {
-      k = q.k; within = omega (arith, q.within); small = q.small; is = q.is; mid = q.mid; tree = q.tree; before = q.before; level = q.level; above = q.above;
+      k = q.k;
+      within = omega (arith, q.within);
+      small = q.small;
+      is = q.is;
+      mid = q.mid;
+      tree = q.tree;
+      before = q.before;
+      level = q.level;
+      above = q.above;
       same = ap (λ (c : List Instr). c ++ finish f) p.same ∙ q.same;
     }
+
     by : (b : Bool) → nat_le (strength f) n ≡ b → (Phrase first n d fs (code ++ finish f) ts → Settled first n (settle n fs (code ++ finish f) d) ts) →
         Settled first n (if b then settle n fs (code ++ finish f) d else rest (f ∷ fs) code d) ts
     by false e again = record { phrase = p; stays = leb-false (strength f) n e }
@@ -146,7 +196,16 @@ room-small first Have fs is d ts b = before-room first d fs _ _ b.before
 
 phrase_of : (first : List Token) (n d : ℕ) (fs : List Frame) (code : List Instr) (ts : List Token) → Operand first d fs code ts → Phrase first n d fs code ts
 phrase_of first n d fs code ts o = record {
-  k = 0; within = omega arith; small = omega arith; is = o.is; mid = o.mid; tree = o.tree; before = o.before; level = o.level; above = above-zero fs; same = o.same;
+  k = 0;
+  within = omega arith;
+  small = omega arith;
+  is = o.is;
+  mid = o.mid;
+  tree = o.tree;
+  before = o.before;
+  level = o.level;
+  above = above-zero fs;
+  same = o.same;
 }
 
 sign-sound : (first : List Token) (d : ℕ) (fs : List Frame) (is : List Instr) (ts : List Token) → Before first d fs is ts → Before first d fs is ts

@@ -1,19 +1,16 @@
 -- From tokens to bytes.
-use Rattle.std.proofs.Common.{◌≡◌, ℕ, zero, suc, ◌+◌, ◌-◌, ◌*◌, ◌<◌, ◌≤◌, ◌^◌, Bool, true, false, cond, List, [], ◌∷◌, ◌++◌, length, take, drop, Option, Some, None, refl, sym, ap, subst, ◌∙◌, arith, append_assoc, length-drop}
-use Rattle.std.specs.Prelude.{option_and_then, if◌then◌else◌, ◌==◌}
-use Rattle.std.specs.List.{prefix_len}
+use Rattle.std.proofs.Common.{◌≡◌, ℕ, ◌-◌, ◌<◌, ◌≤◌, List, [], ◌∷◌, ◌++◌, length, Option, Some, None, refl, sym, ap, subst, ◌∙◌, arith, append_assoc}
+use Rattle.std.specs.Prelude.{option_and_then}
 use Rattle.sh_arith.specs.declared.token.Token.{Token}
-use Rattle.sh_arith.specs.declared.token.Token.TheVariants.{Number, Name, Operator}
 use Rattle.sh_arith.specs.declared.instr.Instr.{Instr}
 use Rattle.sh_arith.specs.declared.instr.Now.{Now}
-use Rattle.sh_arith.specs.declared.instr.Now.TheVariants.{Want}
 use Rattle.sh_arith.specs.declared.instr.Rest.{Rest}
-use Rattle.sh_arith.specs.Grammar.{Tree, Parses, Spells, IsTreeOf, Begins, FirstBad, refused, unformed, unended}
+use Rattle.sh_arith.specs.Grammar.{Tree, Spells, Begins, refused, unformed, unended}
 use Rattle.sh_arith.specs.Lex.{lex, Lexed, got, done, bad, Lexes, Front, place, skip, token_at}
 use Rattle.sh_arith.specs.Machine.{State, at, step_now, accept_now, run, start, emit}
 use Rattle.sh_arith.specs.Compiled.{IsCodeOf, IsNone}
 use Rattle.sh_arith.proofs.Complete.{complete}
-use Rattle.sh_arith.proofs.Sound.{sound, At, Next, Before, nothing, step-sound, room-small}
+use Rattle.sh_arith.proofs.Sound.{sound, At, Next, nothing, step-sound, room-small}
 use Rattle.sh_arith.proofs.Decode.{same_tree}
 use Rattle.sh_arith.proofs.Progress.{token-smaller}
 use Rattle.sh_arith.proofs.Viable.{viable}
@@ -39,9 +36,9 @@ known-next text left now r t after now' r' k e next = record {
   front = front-snoc (length text) text k.tokens left t after k.front e;
   led = λ more. ap (run start) (append_assoc k.tokens (t ∷ []) more) ∙ k.led (t ∷ more) ∙ ap (λ (o : Option State). option_and_then (λ st. run st more) o) next;
   stands = λ more.
-    let whole = k.tokens ++ t ∷ more in
-    let one = subst (λ (o : Option State). Next whole o more) next (step-sound whole now r.room r.stack r.code t more (k.stands (t ∷ more))) in
-    subst (λ (ts : List Token). At ts now' r'.stack r'.code r'.room more) (sym (append_assoc k.tokens (t ∷ []) more)) one;
+      let whole = k.tokens ++ t ∷ more in
+      let one = subst (λ (o : Option State). Next whole o more) next (step-sound whole now r.room r.stack r.code t more (k.stands (t ∷ more))) in
+      subst (λ (ts : List Token). At ts now' r'.stack r'.code r'.room more) (sym (append_assoc k.tokens (t ∷ []) more)) one;
 }
 
 -- there is room for all brackets that are open
@@ -85,8 +82,8 @@ pub known-refused : (text left : List ℕ) (now : Now) (r : Rest) (t : Token) (a
     step_now now r t ≡ None → IsNone (place (length text) left) text
 known-refused text left now r t after k e refusal = record {
   first = refused left after t k.tokens k.front (begun text left now r k) e (λ b.
-    let h : run start ((k.tokens ++ t ∷ []) ++ b.0) ≡ Some (emit b.1 []) = complete b.2 in
-    refuse text left now r t b.0 (emit b.1 []) refusal (sym (k.led (t ∷ b.0)) ∙ ap (run start) (sym (append_assoc k.tokens (t ∷ []) b.0)) ∙ h));
+      let h : run start ((k.tokens ++ t ∷ []) ++ b.0) ≡ Some (emit b.1 []) = complete b.2 in
+      refuse text left now r t b.0 (emit b.1 []) refusal (sym (k.led (t ∷ b.0)) ∙ ap (run start) (sym (append_assoc k.tokens (t ∷ []) b.0)) ∙ h));
   none = λ u s. let l = led-on text left now r k u s in by l.0 l.1 (emit u []) l.2;
 }
   where
@@ -123,10 +120,10 @@ pub known-unended : (text left : List ℕ) (now : Now) (r : Rest) → Known text
 known-unended text left now r k e refusal = record {
   first = unended left k.tokens k.front (begun text left now r k) e (λ t p. let wrong : None ≡ Some (emit t []) = sym refusal ∙ sym (at-end text left now r k) ∙ complete p in cc);
   none = λ u s.
-    let l = led-on text left now r k u s in
-    let nil = ended (length text) left l.0 e l.1 in
-    let wrong : None ≡ Some (emit u []) = sym refusal ∙ ap (run (at now r)) (sym nil) ∙ l.2 in
-    cc;
+      let l = led-on text left now r k u s in
+      let nil = ended (length text) left l.0 e l.1 in
+      let wrong : None ≡ Some (emit u []) = sym refusal ∙ ap (run (at now r)) (sym nil) ∙ l.2 in
+      cc;
 }
 
 pub known-whole : (text left : List ℕ) (now : Now) (r : Rest) (all : List Instr) → Known text left now r → lex (length text) left ≡ done → accept_now now r ≡ Some all → IsCodeOf all text
@@ -137,11 +134,11 @@ known-whole text left now r all k e ok =
       of_text = record {
         spelled = record { tokens = k.tokens; lexed = lexed (length text) text k.tokens left k.front e; parsed = s.parsed };
         only = λ u p.
-          let l = led-on text left now r k u p in
-          let nil = ended (length text) left l.0 e l.1 in
-          let one : Some (emit u []) ≡ Some all = sym l.2 ∙ ap (run (at now r)) nil ∙ ok in
-          let same : emit u [] ≡ all = cc in
-          same_tree u s.tree (same ∙ s.same);
+            let l = led-on text left now r k u p in
+            let nil = ended (length text) left l.0 e l.1 in
+            let one : Some (emit u []) ≡ Some all = sym l.2 ∙ ap (run (at now r)) nil ∙ ok in
+            let same : emit u [] ≡ all = cc in
+            same_tree u s.tree (same ∙ s.same);
       };
       same = s.same;
     }

@@ -1,9 +1,8 @@
 -- What the machine has not refused can be completed.
-use Rattle.std.proofs.Common.{◌≡◌, ℕ, zero, suc, ◌<◌, ◌≤◌, Bool, true, false, List, [], ◌∷◌, ◌++◌, Option, Some, None, refl, sym, ap, ◌∙◌, arith, pos}
-use Rattle.std.specs.Prelude.{option_and_then}
+use Rattle.std.proofs.Common.{◌≡◌, ℕ, suc, ◌≤◌, List, [], ◌∷◌, ◌++◌, Some, refl, ◌∙◌, arith, pos}
 use Rattle.sh_arith.specs.declared.token.Op.TheVariants as op
 use Rattle.sh_arith.specs.declared.token.Token.{Token}
-use Rattle.sh_arith.specs.declared.token.Token.TheVariants.{Number, Name, Operator}
+use Rattle.sh_arith.specs.declared.token.Token.TheVariants.{Number, Operator}
 use Rattle.sh_arith.specs.declared.instr.Instr.{Instr}
 use Rattle.sh_arith.specs.declared.instr.Instr.TheVariants as instr
 use Rattle.sh_arith.specs.declared.instr.Frame.{Frame}
@@ -11,7 +10,7 @@ use Rattle.sh_arith.specs.declared.instr.Frame.TheVariants as frame
 use Rattle.sh_arith.specs.declared.instr.Now.{Now}
 use Rattle.sh_arith.specs.declared.instr.Now.TheVariants.{Want, Named, Have}
 use Rattle.sh_arith.specs.declared.instr.Rest.{Rest}
-use Rattle.sh_arith.specs.Machine.{rest, State, at, strength, finish, settle, run, with_value}
+use Rattle.sh_arith.specs.Machine.{rest, State, at, strength, finish, run}
 use Rattle.sh_arith.proofs.Levels.{tier_small, logic_small}
 use Rattle.sh_arith.proofs.Complete.{Stops, ends, colons, closes, pop, named}
 

@@ -1,9 +1,9 @@
 -- Operators on numbers that fit.
-use Rattle.std.proofs.Common.{◌≡◌, ℤ, Bool, true, false, refl, sym, ap, ◌∙◌, w64, FitsSigned, to_z, of_z}
+use Rattle.std.proofs.Common.{◌≡◌, ℤ, Bool, false, sym, ap, ◌∙◌, w64, FitsSigned, to_z, of_z}
 use Rattle.std.proofs.lemmas.Int.{to_z-of_z, wrapping_neg_is}
 use Rattle.std.specs.Prelude.{if◌then◌else◌}
 use Rattle.std.specs.Int.{int_wrapping_neg, int_wrapping_div}
-use Rattle.sh_arith.specs.Value.{Calculated, gives, fails, by_zero, is_zero, quotient, negated}
+use Rattle.sh_arith.specs.Value.{gives, fails, by_zero, is_zero, quotient, negated}
 
 abbrev pub bits_of : ℤ → ℤ
 bits_of z = to_z w64 (of_z w64 z)

@@ -1,5 +1,5 @@
 -- What `evaluate` answers.
-use Rattle.std.specs.Prelude.{◌≡◌, ℕ, ℤ, ◌⊎◌, List, [], ◌∷◌, ◌++◌, Result, Ok, Err}
+use Rattle.std.specs.Prelude.{◌≡◌, ℕ, ℤ, ◌⊎◌, List, ◌∷◌, ◌++◌, Result, Ok, Err}
 use Rattle.sh_arith.specs.declared.names.ArithErr.{ArithErr}
 use Rattle.sh_arith.specs.declared.names.ArithErr.TheVariants as err
 use Rattle.sh_arith.specs.Grammar.{Tree, IsTreeOf, FirstBad, Spells}

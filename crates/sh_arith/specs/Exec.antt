@@ -1,8 +1,6 @@
 -- Instructions, one after another, over a stack of numbers.
-use Rattle.std.specs.Prelude.{◌≡◌, ℕ, zero, suc, not, ℤ, pos, List, [], ◌∷◌, Option, Some, None}
+use Rattle.std.specs.Prelude.{ℕ, zero, suc, not, ℤ, pos, List, [], ◌∷◌, Option, Some, None}
 use Rattle.sh_arith.specs.declared.token.Math.{Math}
-use Rattle.sh_arith.specs.declared.token.Logic.{Logic}
-use Rattle.sh_arith.specs.declared.token.Sign.{Sign}
 use Rattle.sh_arith.specs.declared.instr.Part.{Part}
 use Rattle.sh_arith.specs.declared.instr.Part.TheVariants as part
 use Rattle.sh_arith.specs.declared.instr.Instr.{Instr}

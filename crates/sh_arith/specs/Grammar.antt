@@ -1,5 +1,5 @@
 -- Expressions over tokens (POSIX.1-2017, XCU 2.6.4; ISO C, 6.5.1 to 6.5.16), as trees.
-use Rattle.std.specs.Prelude.{◌≡◌, ℕ, zero, suc, ℤ, List, [], ◌∷◌, ◌++◌, length, Option, Some, None}
+use Rattle.std.specs.Prelude.{◌≡◌, ℕ, suc, ℤ, List, [], ◌∷◌, ◌++◌, length, Option}
 use Rattle.sh_arith.specs.declared.token.Math.{Math}
 use Rattle.sh_arith.specs.declared.token.Math.TheVariants as math
 use Rattle.sh_arith.specs.declared.token.Logic.{Logic}

@@ -1,9 +1,8 @@
 -- Reading token by token, into instructions: what waits for an operand stands on a stack, and comes off it before a token
 -- that binds no tighter.
-use Rattle.std.specs.Prelude.{◌≡◌, ℕ, zero, suc, Bool, true, false, nat_le, List, [], ◌∷◌, ◌++◌, Option, Some, None, option_and_then, if◌then◌else◌}
+use Rattle.std.specs.Prelude.{ℕ, zero, suc, Bool, true, nat_le, List, [], ◌∷◌, ◌++◌, Option, Some, None, option_and_then, if◌then◌else◌}
 use Rattle.sh_arith.specs.declared.token.Math.{Math}
 use Rattle.sh_arith.specs.declared.token.Math.TheVariants as math
-use Rattle.sh_arith.specs.declared.token.Logic.{Logic}
 use Rattle.sh_arith.specs.declared.token.Sign.TheVariants as sign
 use Rattle.sh_arith.specs.declared.token.Op.{Op}
 use Rattle.sh_arith.specs.declared.token.Op.TheVariants as op

@@ -1,5 +1,5 @@
 -- What the code of an instruction says of names.
-use Rattle.std.specs.Prelude.{◌≡◌, ℕ, ℤ, ◌⊎◌, Bool, false, List, [], ◌∷◌, ◌++◌, Option, Result, Ok, Err}
+use Rattle.std.specs.Prelude.{◌≡◌, ℕ, ℤ, false, List, [], ◌∷◌, ◌++◌, Option, Result, Ok, Err}
 use Rattle.sh_arith.specs.declared.names.ArithErr.{ArithErr}
 use Rattle.sh_arith.specs.declared.names.ArithErr.TheVariants as err
 use Rattle.sh_arith.specs.Names.{Table, Assignment, to, assigned}

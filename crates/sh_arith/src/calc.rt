@@ -71,7 +71,11 @@ fn remainder(a: i64, b: i64) -> Result<i64, NoNumber>
 fn bits(number: i64) -> Option<u32>
     ensures { result ≡ spec.bits number }
 {
-    if (0..64).contains(&number) { Some(number as u32) } else { None }
+    if (0..64).contains(&number) {
+        Some(number as u32)
+    } else {
+        None
+    }
 }
 
 fn left(a: i64, b: i64) -> Result<i64, NoNumber>

@@ -36,7 +36,12 @@ fn read_name<N: Names>(names: &mut N, place: usize, name: &Text) -> Result<i64, 
 }
 
 /// Gives the name a number.
-fn store_name<N: Names>(names: &mut N, place: usize, name: &Text, number: i64) -> Result<i64, ArithErr<N::Halt>>
+fn store_name<N: Names>(
+    names: &mut N,
+    place: usize,
+    name: &Text,
+    number: i64,
+) -> Result<i64, ArithErr<N::Halt>>
     ensures stores { (w' : Table) → N.agrees names.new w' → (w : Table) × N.agrees names.old w × StoreSays (seen_by N.agrees N.get_halts N.unmade_halts N.made_halts) result name.now number (value.store place name.now number w) names.old names.new w w' }
     ensures number { IfOk result (λ r. r ≡ number) }
     ensures halts { (h : N.Halt) → result ≡ Err (ArithErr.Halt h) → N.unmade_halts names.old names.new name.now number h ⊎ N.made_halts names.old names.new name.now number h }
@@ -49,7 +54,12 @@ fn store_name<N: Names>(names: &mut N, place: usize, name: &Text, number: i64) -
     }
 }
 
-fn do_read<N: Names>(names: &mut N, place: usize, name: &Text, values: &mut Stack<i64>) -> Result<Option<usize>, ArithErr<N::Halt>>
+fn do_read<N: Names>(
+    names: &mut N,
+    place: usize,
+    name: &Text,
+    values: &mut Stack<i64>,
+) -> Result<Option<usize>, ArithErr<N::Halt>>
     ensures moves { (w : Table) → N.agrees names.new w → N.agrees names.old w × MoveSays (seen_by N.agrees N.get_halts N.unmade_halts N.made_halts) result values.new (spec.do_read place name.now values.old w) names.old names.new w w }
     ensures fresh { IfOk result (λ o. spec.depth_of o ≡ 0) }
     ensures halts { (h : N.Halt) → result ≡ Err (ArithErr.Halt h) → MayCome (seen_by N.agrees N.get_halts N.unmade_halts N.made_halts) names.old names.new h }
@@ -64,7 +74,13 @@ fn do_read<N: Names>(names: &mut N, place: usize, name: &Text, values: &mut Stac
     }
 }
 
-fn do_store<N: Names>(names: &mut N, op: Option<Math>, place: usize, name: &Text, values: &mut Stack<i64>) -> Result<Option<usize>, ArithErr<N::Halt>>
+fn do_store<N: Names>(
+    names: &mut N,
+    op: Option<Math>,
+    place: usize,
+    name: &Text,
+    values: &mut Stack<i64>,
+) -> Result<Option<usize>, ArithErr<N::Halt>>
     ensures moves { (w' : Table) → N.agrees names.new w' → (w : Table) × N.agrees names.old w × MoveSays (seen_by N.agrees N.get_halts N.unmade_halts N.made_halts) result values.new (spec.do_store op place name.now values.old w) names.old names.new w w' }
     ensures fresh { IfOk result (λ o. spec.depth_of o ≡ 0) }
     ensures halts { (h : N.Halt) → result ≡ Err (ArithErr.Halt h) → MayCome (seen_by N.agrees N.get_halts N.unmade_halts N.made_halts) names.old names.new h }
@@ -97,7 +113,11 @@ fn without_names<H>(instr: &Instr, values: &mut Stack<i64>) -> Result<Option<usi
 }
 
 /// Does an instruction, and says how instructions are skipped after it.
-fn one<N: Names>(instr: &Instr, values: &mut Stack<i64>, names: &mut N) -> Result<Option<usize>, ArithErr<N::Halt>>
+fn one<N: Names>(
+    instr: &Instr,
+    values: &mut Stack<i64>,
+    names: &mut N,
+) -> Result<Option<usize>, ArithErr<N::Halt>>
     ensures moves { (w' : Table) → N.agrees names.new w' → (w : Table) × N.agrees names.old w × MoveSays (seen_by N.agrees N.get_halts N.unmade_halts N.made_halts) result values.new (spec.do_one instr.now values.old w) names.old names.new w w' }
     ensures fresh { IfOk result (λ o. spec.depth_of o ≡ 0) }
     ensures halts { (h : N.Halt) → result ≡ Err (ArithErr.Halt h) → MayCome (seen_by N.agrees N.get_halts N.unmade_halts N.made_halts) names.old names.new h }
@@ -116,7 +136,12 @@ fn one<N: Names>(instr: &Instr, values: &mut Stack<i64>, names: &mut N) -> Resul
 }
 
 /// Does an instruction or skips it, and says how instructions are skipped after it.
-fn turn<N: Names>(instr: &Instr, skipped: Option<usize>, values: &mut Stack<i64>, names: &mut N) -> Result<Option<usize>, ArithErr<N::Halt>>
+fn turn<N: Names>(
+    instr: &Instr,
+    skipped: Option<usize>,
+    values: &mut Stack<i64>,
+    names: &mut N,
+) -> Result<Option<usize>, ArithErr<N::Halt>>
     requires { spec.depth_of skipped < 2 ^ 64 - 1 }
     ensures moves { (w' : Table) → N.agrees names.new w' → (w : Table) × N.agrees names.old w × MoveSays (seen_by N.agrees N.get_halts N.unmade_halts N.made_halts) result values.new (spec.move_in skipped instr.now values.old w) names.old names.new w w' }
     ensures depth { IfOk result (λ o. spec.depth_of o ≤ spec.depth_of skipped + 1) }
@@ -147,7 +172,11 @@ fn run_all<N: Names>(alloc: Global, code: &[Instr], names: &mut N) -> Result<i64
 
 /// The value of an expression. The text is read as a whole first, in time linear in its bytes; then each instruction is met
 /// once. What is assigned before an error stays assigned.
-pub fn evaluate<N: Names>(alloc: Global, text: &[u8], names: &mut N) -> Result<i64, ArithErr<N::Halt>>
+pub fn evaluate<N: Names>(
+    alloc: Global,
+    text: &[u8],
+    names: &mut N,
+) -> Result<i64, ArithErr<N::Halt>>
     ensures { Answers (seen_by N.agrees N.get_halts N.unmade_halts N.made_halts) text.now names.old names.new result }
 {
     match read(alloc, text) {

@@ -20,3 +20,6 @@ pub use names::{ArithErr, Assigned, Names};
 pub use reading::ReadErr;
 pub use stack::Stack;
 pub use token::{LexError, Logic, Math, Op, Sign, Token};
+
+#[cfg(test)]
+mod tests;

@@ -216,7 +216,12 @@ fn have_token(rest: &mut Rest, token: Token) -> Result<Option<Now>, AllocError>
     }
 }
 
-fn assign(rest: &mut Rest, op: Option<Math>, place: usize, name: Text) -> Result<Option<Now>, AllocError>
+fn assign(
+    rest: &mut Rest,
+    op: Option<Math>,
+    place: usize,
+    name: Text,
+) -> Result<Option<Now>, AllocError>
     ensures { Steps result rest.new (machine.named_op place name (Op.Assign op) rest.old) }
 {
     if !holds(&rest.stack, 12) {
@@ -243,7 +248,12 @@ fn named_op(rest: &mut Rest, place: usize, name: Text, op: Op) -> Result<Option<
 }
 
 /// Behind a name.
-fn named_token(rest: &mut Rest, place: usize, name: Text, token: Token) -> Result<Option<Now>, AllocError>
+fn named_token(
+    rest: &mut Rest,
+    place: usize,
+    name: Text,
+    token: Token,
+) -> Result<Option<Now>, AllocError>
     requires { rest.old.room < 2 ^ 63 }
     ensures { Steps result rest.new (machine.named_token place name token rest.old) }
 {
@@ -270,7 +280,11 @@ pub fn step(rest: &mut Rest, now: Now, token: Token) -> Result<Option<Now>, Allo
 fn whole(rest: Rest) -> Option<Items<Instr>>
     ensures { result ≡ machine.whole rest }
 {
-    let Rest { mut stack, code, .. } = rest;
+    let Rest {
+        mut stack,
+        code,
+        ..
+    } = rest;
     match stack.pop() {
         None => Some(code),
         Some(_) => None,

@@ -1,4 +1,3 @@
-use Rattle.std.proofs.Common.{Err, refl, sym, ◌∙◌}
 use Rattle.sh_arith.specs.Answers.{seen_by}
 use Rattle.sh_arith.proofs.Moves.{value_between, read_moves}
 use Rattle.sh_arith.proofs.evaluation.do_read.Goals as goal

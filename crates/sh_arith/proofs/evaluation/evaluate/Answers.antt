@@ -1,4 +1,4 @@
-use Rattle.std.proofs.Common.{Result, Err, refl, subst}
+use Rattle.std.proofs.Common.{Err, refl, subst}
 use Rattle.sh_arith.specs.declared.reading.ReadErr.{ReadErr}
 use Rattle.sh_arith.specs.Answers.{seen_by, no_memory}
 use Rattle.sh_arith.specs.Compiled.{Reads}

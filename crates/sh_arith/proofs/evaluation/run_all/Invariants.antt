@@ -1,4 +1,4 @@
-use Rattle.std.proofs.Common.{◌≡◌, ℕ, ◌≤◌, List, drop}
+use Rattle.std.proofs.Common.{◌≤◌, drop}
 use Rattle.sh_arith.specs.Answers.{seen_by}
 use Rattle.sh_arith.specs.Exec.{depth_of}
 use Rattle.sh_arith.specs.Moves.{Passes}

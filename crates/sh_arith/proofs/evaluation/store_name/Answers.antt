@@ -6,6 +6,9 @@ use Rattle.sh_arith.proofs.evaluation.store_name.Goals as goal
 
 pub returns-in-Err-clause-stores : goal.returns-in-Err-clause-stores
 returns-in-Err-clause-stores g c = λ w' a.
-    let s = c.in-Err.ensures.sets w' a in
-    (s.0, s.1, set_halted (seen_by g.N.Names.agrees g.N.Names.get_halts g.N.Names.unmade_halts g.N.Names.made_halts) _ _ _ _ _ _ _ _ _
-      c.as_slice.ensures (to_z-of_z w64 c.args.number c.ranges.number) s.2)
+    let s = c.in-Err.ensures.sets w' a in (
+      s.0,
+      s.1,
+      set_halted (seen_by g.N.Names.agrees g.N.Names.get_halts g.N.Names.unmade_halts g.N.Names.made_halts) _ _ _ _ _ _ _ _ _
+          c.as_slice.ensures (to_z-of_z w64 c.args.number c.ranges.number) s.2,
+    )

@@ -1,4 +1,4 @@
-use Rattle.std.proofs.Common.{◌-◌, length, Option, Ok, Err, sym, subst, ◌∙◌, arith, refl}
+use Rattle.std.proofs.Common.{◌-◌, length, Option, Ok, Err, sym, subst, ◌∙◌, arith}
 use Rattle.sh_arith.specs.declared.instr.Now.{Now}
 use Rattle.sh_arith.specs.declared.token.LexError.{LexError}
 use Rattle.sh_arith.specs.Lex.{Gives, token_at}

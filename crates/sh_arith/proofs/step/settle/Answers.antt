@@ -1,5 +1,5 @@
 use Rattle.std.proofs.Common.{sym, ◌∙◌}
-use Rattle.sh_arith.proofs.Rooms.{took, stayed, empty_stays}
+use Rattle.sh_arith.proofs.Rooms.{took, stayed}
 use Rattle.sh_arith.proofs.step.settle.Goals as goal
 
 pub frames-preserved : goal.frames-preserved
