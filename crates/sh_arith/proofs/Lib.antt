@@ -1,0 +1,16 @@
+pub mod Complete
+pub mod Decode
+pub mod Digits
+pub mod Ends
+pub mod Examples
+pub mod Forks
+pub mod Law
+pub mod Levels
+pub mod Loop
+pub mod Moves
+pub mod Progress
+pub mod Rooms
+pub mod Sound
+pub mod Text
+pub mod Viable
+pub mod Wraps

@@ -1,0 +1,14 @@
+pub mod Answers
+pub mod Calc
+pub mod Compiled
+pub mod Does
+pub mod Exec
+pub mod Grammar
+pub mod Lex
+pub mod Machine
+pub mod Moves
+pub mod Names
+pub mod Number
+pub mod Stack
+pub mod Steps
+pub mod Value
