@@ -1,5 +1,5 @@
 -- Words, and what is read off them. Of the options, `n` takes a value, `a` and `b` take none.
-use Rattle.std.proofs.Common.{◌≡◌, ℕ, Bool, true, false, List, [], ◌∷◌, Some, None, refl, codes}
+use Rattle.std.proofs.Common.{◌≡◌, ℕ, true, false, List, [], ◌∷◌, Some, None, refl, codes}
 use Rattle.util_opts.specs.Reading.{Reading, Reads, Unknown, Missing, options_of}
 
 reading : List (List ℕ) → Reading

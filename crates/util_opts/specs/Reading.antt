@@ -36,7 +36,7 @@ is_group (b ∷ c ∷ r) = b == 45
 
 -- ---- One group (guideline 5). `next` reads the words behind it: where it is given an option, the first of them is its value.
 
--- the value of an option is what is joined to it, or else the next word (guidelines 6 and 7)
+-- the value of an option is what is joined to it, or else the next word (guideline 6, and XBD 12.1, 2)
 abbrev pub value : ℕ → List ℕ → (Option ℕ → Reading) → Reading
 value b [] next = next (Some b)
 value b (c ∷ r) next = behind ((b, Some (c ∷ r)) ∷ []) (next None)
