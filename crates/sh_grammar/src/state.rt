@@ -43,8 +43,6 @@ pub struct Pipe {
     pub bang: bool,
     /// Its complete commands.
     pub stages: Items<Command>,
-    /// The function whose body is being read, and the body's number.
-    pub function: Option<(Text, u32)>,
 }
 
 /// A `case` command so far.
@@ -116,6 +114,8 @@ pub enum Now {
 #[derive(Drop)]
 pub enum Below {
     Pipe(Pipe),
+    /// The body of a function.
+    Function(Text, u32),
     /// A word of a simple command.
     Argument(Simple),
     /// The value of an assignment.

@@ -52,10 +52,8 @@ pub enum Bit {
     Escaped(u8),
     /// What stands between single quotes.
     Single(Text),
-    /// `$x` or `${x}`
+    /// A parameter without braces.
     Value(Text),
-    /// `${#x}`
-    Length(Text),
 }
 
 /// What begins a part of a word that has parts or a list in it.
@@ -79,7 +77,7 @@ pub enum Opener {
 }
 
 /// What ends, where the grammar says how to go on.
-#[derive(Drop)]
+#[derive(Clone, Copy, Debug, PartialEq, Eq, Drop)]
 pub enum End {
     /// Of a word. It takes no bytes.
     Word,
@@ -94,10 +92,6 @@ pub enum End {
     /// Of a text that was cut out: what stands in backquotes, or a here-document's body.
     Text,
     Newline,
-    /// All of the body of a here-document whose delimiter was quoted.
-    Body(Text),
-    /// A here-document's delimiter, without its quotes, and whether any part was quoted.
-    Delimiter(Text, bool),
 }
 
 /// What a here-document's body ends with and how it is read (XCU 2.7.4).
@@ -113,7 +107,9 @@ pub struct Here {
 pub enum Token {
     Operator(Op),
     Part(Bit),
-    /// With how its parts are read; after its end the word goes on so.
+    /// `${x}`; true: `${#x}`.
+    Param(Text, bool),
+    /// With how the word round it is read.
     Open(Opener, Mode),
     /// With how the next token is read.
     End(End, Mode),
@@ -123,10 +119,14 @@ pub enum Token {
     Redirect(u8, RedirOp),
     /// The same for `<<` and `<<-`; true: `<<-`.
     Here(u8, bool),
-    /// The name of a function that is defined (XCU 2.9.5).
-    Function(Text),
+    /// A here-document's delimiter without its quotes, whether any part was quoted, and how the next token is read.
+    Delimiter(Text, bool, Mode),
     /// Before the body of a here-document that is expanded, whose text is read next.
     Body,
+    /// The body of a here-document whose delimiter was quoted, and how the next token is read.
+    Verbatim(Text, Mode),
+    /// The name of a function that is defined (XCU 2.9.5).
+    Function(Text),
 }
 
 /// How a token is read.
