@@ -1,2 +1,4 @@
 pub mod Draft
 pub mod Grammar
+pub mod Machine
+pub mod Tests
