@@ -550,12 +550,18 @@ mutual
   one_compound b (g.loop {until = true} k l) = in_list _ k (at_op refl) ∙ (any _ _ _ (InList-some k) ∙ (in_list _ l (at_op refl) ∙ any _ _ _ (InList-some l)))
   one_compound b (g.loop {until = false} k l) = in_list _ k (at_op refl) ∙ (any _ _ _ (InList-some k) ∙ (in_list _ l (at_op refl) ∙ any _ _ _ (InList-some l)))
   one_compound b (g.for_words {x = x} {ws = ws} {ts = ts} e n w sep l) =
-      holds _ _ (token.End end.Word mode.Command ∷ ts) e ∙ (newlines (gap.For x) b n refl ∙ (for_words x b w ∙ (for_separator x ws b sep ∙ (in_list _ l (at_op refl) ∙ any _ _ _ (InList-some l)))))
+      holds _ _ (token.End end.Word mode.Command ∷ ts) e ∙ (for_in x b n ∙ (for_words x b w ∙ (for_separator x ws b sep ∙ (in_list _ l (at_op refl) ∙ any _ _ _ (InList-some l)))))
   one_compound b (g.for_parameters {x = x} {ts = ts} e sep l) = holds _ _ (token.End end.Word mode.Command ∷ ts) e ∙ (may_separate x b sep ∙ (in_list _ l (at_op refl) ∙ any _ _ _ (InList-some l)))
   one_compound b (g.case_command {ps = ps} p h n r) = parts _ p ∙ (any _ _ _ h ∙ (newlines (gap.In (word ps)) b n refl ∙ arms (word ps) b r))
 
+  for_in : (x : List ℕ) (b : List Below) {d : ℕ} {s s' : Draft} {ts mid : List Token} → Newlines mode.Command d s ts (token.Operator op.In ∷ mid) s' →
+      run (at (now.ForNamed x) b d s) ts ≡ run (at (now.ForWords x []) b d s') mid
+  for_in x b g.no_newline = refl
+  for_in x b (g.one_newline {s = s} h r) =
+      holds _ _ _ (same_mode-refl (cut_mode mode.Command s.due)) ∙ (bodies (gap.For x) b h refl ∙ newlines (gap.For x) b r refl)
+
   may_separate : (x : List ℕ) (b : List Below) {d : ℕ} {s s' : Draft} {ts mid : List Token} → MaySeparate d s ts (token.Operator op.Do ∷ mid) s' →
-      run (at (now.Gap (gap.For x)) b d s) ts ≡ run (open_list (below.ForDo x None) b d s') mid
+      run (at (now.ForNamed x) b d s) ts ≡ run (open_list (below.ForDo x None) b d s') mid
   may_separate x b g.not_separated = refl
   may_separate x b (g.separated (g.semi r)) = newlines (gap.Do x None) b r refl
   may_separate x b (g.separated (g.newline {s = s} h r)) =

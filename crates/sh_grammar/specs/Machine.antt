@@ -299,7 +299,6 @@ arms c b d s t = parts [] (below.Pattern c [] ∷ b) d s t
 abbrev pub after_for : List ℕ → List Below → ℕ → Draft → Op → Option State
 after_for x b d s op.In = Some (at (now.ForWords x []) b d s)
 after_for x b d s op.Do = Some (open_list (below.ForDo x None) b d s)
-after_for x b d s op.Semi = Some (at (now.Gap (gap.Do x None)) b d s)
 after_for x b d s o = None
 
 abbrev pub at_gap : Gap → List Below → ℕ → Draft → Token → Option State
@@ -329,6 +328,19 @@ for_bit b d s x = None
 abbrev pub for_name : List Below → ℕ → Draft → Token → Option State
 for_name b d s (token.Part x) = for_bit b d s x
 for_name b d s t = None
+
+abbrev pub named_op : List ℕ → List Below → ℕ → Draft → Op → Option State
+named_op x b d s op.Semi = Some (at (now.Gap (gap.Do x None)) b d s)
+named_op x b d s o = after_for x b d s o
+
+abbrev pub named_end : List ℕ → List Below → ℕ → Draft → Mode → End → Option State
+named_end x b d s m end.Newline = newline (gap.For x) b d s m
+named_end x b d s m e = None
+
+abbrev pub for_named : List ℕ → List Below → ℕ → Draft → Token → Option State
+for_named x b d s (Operator o) = named_op x b d s o
+for_named x b d s (token.End e m) = named_end x b d s m e
+for_named x b d s t = None
 
 abbrev pub for_op : List ℕ → List Word → List Below → ℕ → Draft → Op → Option State
 for_op x ws b d s op.Semi = Some (at (now.Gap (gap.Do x (Some ws))) b d s)
@@ -361,7 +373,8 @@ step_now (now.Delimiter fd strip h) b d s t = delimiter fd strip h b d s t
 step_now (now.Name x) b d s t = when (is_op op.Open t) (Some (at (now.Named x) b d s))
 step_now (now.Named x) b d s t = when (is_op op.Close t) (Some (at (now.Gap (gap.Function x)) b d s))
 step_now now.For b d s t = for_name b d s t
-step_now (now.ForName x) b d s t = when (is_end end.Word mode.Command t) (Some (at (now.Gap (gap.For x)) b d s))
+step_now (now.ForName x) b d s t = when (is_end end.Word mode.Command t) (Some (at (now.ForNamed x) b d s))
+step_now (now.ForNamed x) b d s t = for_named x b d s t
 step_now (now.ForWords x ws) b d s t = for_words x ws b d s t
 step_now (now.Patterns c ws) b d s t = on_op (patterns_op c ws b d s) t
 

@@ -74,7 +74,7 @@ pub enum Gap {
     In(Word),
     /// Before an arm of a `case`.
     Arms(Case),
-    /// After the name of a `for`.
+    /// After the name of a `for` and a newline.
     For(Text),
     /// Before the `do` of a `for`.
     Do(Text, Option<Items<Word>>),
@@ -104,6 +104,8 @@ pub enum Now {
     For,
     /// In the name of a `for`.
     ForName(Text),
+    /// After it.
+    ForNamed(Text),
     /// After the `in` of a `for`.
     ForWords(Text, Items<Word>),
     /// After a pattern.
