@@ -1,0 +1,507 @@
+-- What the machine reads, the grammar derives: what a state still wants is said by the grammar.
+use Rattle.std.specs.Prelude.{option_and_then}
+use Rattle.sh_syntax.specs.declared.tree.Part.{Part}
+use Rattle.sh_syntax.specs.declared.tree.Part.TheVariants as part
+use Rattle.sh_syntax.specs.declared.tree.Word.{Word}
+use Rattle.sh_syntax.specs.declared.tree.Redir.{Redir}
+use Rattle.sh_syntax.specs.declared.tree.RedirOp.{RedirOp}
+use Rattle.sh_syntax.specs.declared.tree.ParamOp.{ParamOp}
+use Rattle.sh_syntax.specs.declared.tree.Command.{Command}
+use Rattle.sh_syntax.specs.declared.tree.Command.TheVariants as command
+use Rattle.sh_syntax.specs.declared.tree.Compound.{Compound}
+use Rattle.sh_syntax.specs.declared.tree.Compound.TheVariants as compound
+use Rattle.sh_syntax.specs.declared.tree.AndOr.{AndOr}
+use Rattle.sh_syntax.specs.declared.tree.Join.{Join}
+use Rattle.sh_syntax.specs.declared.tree.Join.TheVariants as join
+use Rattle.sh_syntax.specs.declared.tree.Script.{Script}
+use Rattle.sh_syntax.specs.Trees.{word}
+use Rattle.sh_lexer.specs.declared.token.Token.{Token}
+use Rattle.sh_lexer.specs.declared.token.Token.TheVariants as token
+use Rattle.sh_lexer.specs.declared.token.Op.{Op}
+use Rattle.sh_lexer.specs.declared.token.Op.TheVariants as op
+use Rattle.sh_lexer.specs.declared.token.Bit.{Bit}
+use Rattle.sh_lexer.specs.declared.token.Opener.{Opener}
+use Rattle.sh_lexer.specs.declared.token.End.{End}
+use Rattle.sh_lexer.specs.declared.token.End.TheVariants as end
+use Rattle.sh_lexer.specs.declared.token.Mode.{Mode}
+use Rattle.sh_lexer.specs.declared.token.Mode.TheVariants as mode
+use Rattle.sh_lexer.specs.Bytes.{is_name}
+use Rattle.sh_grammar.specs.declared.state.Due.{Due}
+use Rattle.sh_grammar.specs.declared.state.Draft.{Draft}
+use Rattle.sh_grammar.specs.declared.state.Simple.{Simple}
+use Rattle.sh_grammar.specs.declared.state.Pipe.{Pipe}
+use Rattle.sh_grammar.specs.declared.state.Case.{Case}
+use Rattle.sh_grammar.specs.declared.state.Host.{Host}
+use Rattle.sh_grammar.specs.declared.state.Host.TheVariants as host
+use Rattle.sh_grammar.specs.declared.state.Gap.{Gap}
+use Rattle.sh_grammar.specs.declared.state.Gap.TheVariants as gap
+use Rattle.sh_grammar.specs.declared.state.Now.TheVariants as now
+use Rattle.sh_grammar.specs.declared.state.Below.{Below}
+use Rattle.sh_grammar.specs.declared.state.Below.TheVariants as below
+use Rattle.sh_grammar.specs.Grammar as g
+use Rattle.sh_grammar.specs.Grammar.{NotEmpty, Parts, Bodies, Newlines, Separator, MaySeparate, OneRedir, Redirs, Elements, ForWords, Patterns, OneArm, Arms, Branches, MoreBranches, OneCompound, OneCommand, Stages, MoreStages, OnePipeline, ListRest, InList, MayBeList, MayOpen, ParsesWithin, HasElement, no_simple, simple, loop_op, join_op, mode_before}
+use Rattle.sh_grammar.specs.Tests.{same_mode, is_op, is_end, ends_list}
+use Rattle.sh_grammar.specs.Machine as m
+use Rattle.std.proofs.Common.{◌≡◌, Bool, true, false, cond, ℕ, zero, suc, List, [], ◌∷◌, ◌++◌, Option, Some, None, refl, sym, subst}
+use Rattle.sh_lexer.specs.declared.token.Bit.TheVariants as bit
+use Rattle.sh_lexer.specs.declared.token.Opener.TheVariants as opener
+use Rattle.sh_grammar.specs.declared.state.Now.{Now}
+use Rattle.sh_grammar.specs.Draft.{next_list, begin_list, end_list, next_leaf, begin_leaf, end_leaf, next_body, begin_body, end_body, next_here, begin_here, end_here, none_due, cut_mode, redir, here_redir, and_or, joined, filled, no_draft}
+use Rattle.sh_grammar.specs.Grammar.{Parses, with_assign, with_word, with_redir, max_nesting}
+use Rattle.sh_grammar.specs.Machine.{State, at, if_any, when, gap_mode, next_due, host_mode, list_ended, this_and_or, command_ended, pipe, end_with, end_command, accept_now, step_now, run, start, start_within, opened, case, with_arm}
+use Rattle.sh_grammar.proofs.Tests.{same_mode-is, is_op-is, is_end-is}
+use Rattle.sh_grammar.proofs.Complete.{some-append}
+
+mutual
+  -- the list is complete with these items
+  data Finishes : List AndOr → List Below → ℕ → Draft → List Token → Script → Type 0 where
+    top : {is : List AndOr} {d : ℕ} {s : Draft} → s.due ≡ [] → Finishes is [] d s [] (filled (end_list 0 is s))
+    in_group : {is : List AndOr} {n d : ℕ} {b : List Below} {s : Draft} {ts : List Token} {all : Script} →
+        NotEmpty is → RedirsGo (compound.Group n) [] b (suc d) (end_list n is s) ts all → Finishes is (below.Group n ∷ b) d s (token.Operator op.RightBrace ∷ ts) all
+    in_subshell : {is : List AndOr} {n d : ℕ} {b : List Below} {s : Draft} {ts : List Token} {all : Script} →
+        NotEmpty is → RedirsGo (compound.Subshell n) [] b (suc d) (end_list n is s) ts all → Finishes is (below.Subshell n ∷ b) d s (token.Operator op.Close ∷ ts) all
+    in_test : {is js : List AndOr} {bs cs : List (ℕ × ℕ)} {o : Option ℕ} {n d : ℕ} {b : List Below} {s t u : Draft} {ts mid rest : List Token} {all : Script} →
+        NotEmpty is → InList d (begin_list (end_list n is s)) ts mid js t → MoreBranches d (end_list (next_list s) js t) (bs ++ (n, next_list s) ∷ []) mid rest cs o u →
+        RedirsGo (compound.If cs o) [] b (suc d) u rest all → Finishes is (below.Test bs n ∷ b) d s (token.Operator op.Then ∷ ts) all
+    in_then : {is : List AndOr} {bs cs : List (ℕ × ℕ)} {o : Option ℕ} {n k d : ℕ} {b : List Below} {s t : Draft} {ts mid : List Token} {all : Script} →
+        NotEmpty is → MoreBranches d (end_list k is s) (bs ++ (n, k) ∷ []) ts mid cs o t → RedirsGo (compound.If cs o) [] b (suc d) t mid all →
+        Finishes is (below.Then bs n k ∷ b) d s ts all
+    in_else : {is : List AndOr} {bs : List (ℕ × ℕ)} {n d : ℕ} {b : List Below} {s : Draft} {ts : List Token} {all : Script} →
+        NotEmpty is → RedirsGo (compound.If bs (Some n)) [] b (suc d) (end_list n is s) ts all → Finishes is (below.Else bs n ∷ b) d s (token.Operator op.Fi ∷ ts) all
+    in_while : {is js : List AndOr} {until : Bool} {n d : ℕ} {b : List Below} {s t : Draft} {ts rest : List Token} {all : Script} →
+        NotEmpty is → InList d (begin_list (end_list n is s)) ts (token.Operator op.Done ∷ rest) js t →
+        RedirsGo (compound.While until n (next_list s)) [] b (suc d) (end_list (next_list s) js t) rest all → Finishes is (below.While until n ∷ b) d s (token.Operator op.Do ∷ ts) all
+    in_while_do : {is : List AndOr} {until : Bool} {n k d : ℕ} {b : List Below} {s : Draft} {ts : List Token} {all : Script} →
+        NotEmpty is → RedirsGo (compound.While until n k) [] b (suc d) (end_list k is s) ts all → Finishes is (below.WhileDo until n k ∷ b) d s (token.Operator op.Done ∷ ts) all
+    in_for : {is : List AndOr} {x : List ℕ} {ws : Option (List Word)} {n d : ℕ} {b : List Below} {s : Draft} {ts : List Token} {all : Script} →
+        NotEmpty is → RedirsGo (compound.For x ws n) [] b (suc d) (end_list n is s) ts all → Finishes is (below.ForDo x ws n ∷ b) d s (token.Operator op.Done ∷ ts) all
+    in_arm : {is : List AndOr} {c : Case} {ws : List Word} {n d : ℕ} {b : List Below} {s : Draft} {ts : List Token} {all : Script} →
+        ArmEnds (with_arm ws n c) b d (end_list n is s) ts all → Finishes is (below.Arm c ws n ∷ b) d s ts all
+    in_substitution : {is : List AndOr} {ps : List Part} {n : Mode} {l d : ℕ} {b : List Below} {s : Draft} {ts : List Token} {all : Script} →
+        PartsGo (ps ++ part.Command l ∷ []) b (suc d) (end_list l is s) ts all → Finishes is (below.Command ps n l ∷ b) d s (token.End end.List n ∷ ts) all
+    in_backquotes : {is : List AndOr} {ps : List Part} {n : Mode} {l d : ℕ} {b : List Below} {s : Draft} {ts : List Token} {all : Script} →
+        PartsGo (ps ++ part.Command l ∷ []) b (suc d) (end_list l is s) ts all → Finishes is (below.Backquote ps n l ∷ b) d s (token.End end.Text n ∷ ts) all
+
+  -- after the list of an arm, which is the last one of these
+  data ArmEnds : Case → List Below → ℕ → Draft → List Token → Script → Type 0 where
+    arm_esac : {c : Case} {b : List Below} {d : ℕ} {s : Draft} {ts : List Token} {all : Script} →
+        RedirsGo (case c) [] b (suc d) s ts all → ArmEnds c b d s (token.Operator op.Esac ∷ ts) all
+    arm_semis : {c : Case} {arms : List (List Word × ℕ)} {b : List Below} {d : ℕ} {s t : Draft} {ts mid : List Token} {all : Script} →
+        Arms d s c.arms ts mid arms t → RedirsGo (compound.Case c.word arms) [] b (suc d) t mid all → ArmEnds c b d s (token.Operator op.DoubleSemi ∷ ts) all
+
+  -- after a compound command
+  data RedirsGo : Compound → List Redir → List Below → ℕ → Draft → List Token → Script → Type 0 where
+    redirs_go : {x : Compound} {rs rs' : List Redir} {b : List Below} {d : ℕ} {s t : Draft} {ts mid : List Token} {all : Script} →
+        Redirs d s rs ts mid rs' t → CommandEnds (command.Compound x rs') b d t mid all → RedirsGo x rs b d s ts all
+
+  -- a command has ended
+  data CommandEnds : Command → List Below → ℕ → Draft → List Token → Script → Type 0 where
+    ends_function : {c : Command} {x : List ℕ} {n : ℕ} {b : List Below} {d : ℕ} {s : Draft} {ts : List Token} {all : Script} →
+        CommandEnds (command.Function x n) b d (end_body n c s) ts all → CommandEnds c (below.Function x n ∷ b) d s ts all
+    ends_stage : {c : Command} {cs : List Command} {p : Pipe} {b : List Below} {d : ℕ} {s t : Draft} {ts mid : List Token} {all : Script} →
+        MoreStages d s (p.stages ++ c ∷ []) ts mid cs t → Continues p.items (this_and_or p.before p.leaf) b d (end_leaf p.leaf p.bang cs t) mid all →
+        CommandEnds c (below.Pipe p ∷ b) d s ts all
+
+  -- a pipeline has ended
+  data Continues : List AndOr → AndOr → List Below → ℕ → Draft → List Token → Script → Type 0 where
+    continues : {is js : List AndOr} {a : AndOr} {b : List Below} {d : ℕ} {s t : Draft} {ts mid : List Token} {all : Script} →
+        ListRest d s is a ts mid js t → Finishes js b d t mid all → Continues is a b d s ts all
+
+  data ElementsGo : Simple → List Below → ℕ → Draft → List Token → Script → Type 0 where
+    elements_go : {c c' : Simple} {b : List Below} {d : ℕ} {s t : Draft} {ts mid : List Token} {all : Script} →
+        Elements d s c ts mid c' t → CommandEnds (simple c') b d t mid all → ElementsGo c b d s ts all
+
+  data PartsGo : List Part → List Below → ℕ → Draft → List Token → Script → Type 0 where
+    parts_go : {ps qs : List Part} {b : List Below} {d : ℕ} {s t : Draft} {ts mid : List Token} {all : Script} →
+        Parts d s ps ts mid qs t → PartsEnd qs b d t mid all → PartsGo ps b d s ts all
+
+  -- the parts are complete
+  data PartsEnd : List Part → List Below → ℕ → Draft → List Token → Script → Type 0 where
+    end_argument : {ps : List Part} {c : Simple} {b : List Below} {d : ℕ} {s : Draft} {ts : List Token} {all : Script} →
+        NotEmpty ps → ElementsGo (with_word ps c) b d s ts all → PartsEnd ps (below.Argument c ∷ b) d s (token.End end.Word mode.Arguments ∷ ts) all
+    end_assign : {ps : List Part} {x : List ℕ} {c : Simple} {b : List Below} {d : ℕ} {s : Draft} {ts : List Token} {all : Script} →
+        ElementsGo (with_assign x ps c) b d s ts all → PartsEnd ps (below.Assign x c ∷ b) d s (token.End end.Word mode.Prefix ∷ ts) all
+    end_redirect : {ps : List Part} {fd : ℕ} {o : RedirOp} {c : Simple} {b : List Below} {d : ℕ} {s : Draft} {ts : List Token} {all : Script} →
+        NotEmpty ps → ElementsGo (with_redir (redir fd o ps) c) b d s ts all →
+        PartsEnd ps (below.Redirect fd o (host.Simple c) ∷ b) d s (token.End end.Word (mode_before c.words) ∷ ts) all
+    end_compound_redirect : {ps : List Part} {fd : ℕ} {o : RedirOp} {x : Compound} {rs : List Redir} {b : List Below} {d : ℕ} {s : Draft} {ts : List Token} {all : Script} →
+        NotEmpty ps → RedirsGo x (rs ++ redir fd o ps ∷ []) b d s ts all →
+        PartsEnd ps (below.Redirect fd o (host.Compound x rs) ∷ b) d s (token.End end.Word mode.Arguments ∷ ts) all
+    end_for_word : {ps : List Part} {x : List ℕ} {ws : List Word} {b : List Below} {d : ℕ} {s : Draft} {ts : List Token} {all : Script} →
+        NotEmpty ps → ForGoes x (ws ++ word ps ∷ []) b d s ts all → PartsEnd ps (below.ForWord x ws ∷ b) d s (token.End end.Word mode.Arguments ∷ ts) all
+    end_case_word : {ps : List Part} {b : List Below} {d : ℕ} {s : Draft} {ts : List Token} {all : Script} →
+        NotEmpty ps → GapGoes (gap.In (word ps)) b d s ts all → PartsEnd ps (below.CaseWord ∷ b) d s (token.End end.Word mode.Command ∷ ts) all
+    end_pattern : {ps : List Part} {c : Case} {ws : List Word} {b : List Below} {d : ℕ} {s : Draft} {ts : List Token} {all : Script} →
+        NotEmpty ps → PatternsGo c (ws ++ word ps ∷ []) b d s ts all → PartsEnd ps (below.Pattern c ws ∷ b) d s (token.End end.Word mode.Arguments ∷ ts) all
+    end_double : {ps qs : List Part} {n : Mode} {b : List Below} {d : ℕ} {s : Draft} {ts : List Token} {all : Script} →
+        PartsGo (qs ++ part.Double ps ∷ []) b d s ts all → PartsEnd ps (below.Double qs n ∷ b) d s (token.End end.Quote n ∷ ts) all
+    end_braces : {ps qs : List Part} {x : List ℕ} {o : ParamOp} {c : Bool} {n : Mode} {b : List Below} {d : ℕ} {s : Draft} {ts : List Token} {all : Script} →
+        PartsGo (qs ++ part.Param x o c (Some (word ps)) ∷ []) b (suc d) s ts all → PartsEnd ps (below.Braces qs x o c n ∷ b) d s (token.End end.Brace n ∷ ts) all
+    end_arith : {ps qs : List Part} {n : Mode} {b : List Below} {d : ℕ} {s : Draft} {ts : List Token} {all : Script} →
+        PartsGo (qs ++ part.Arith (word ps) ∷ []) b (suc d) s ts all → PartsEnd ps (below.Arith qs n ∷ b) d s (token.End end.Arith n ∷ ts) all
+    end_here_body : {ps : List Part} {n : ℕ} {hs : List Due} {k : Gap} {b : List Below} {d : ℕ} {s : Draft} {ts : List Token} {all : Script} →
+        DueGo hs k b d (end_here n (part.Double ps) s) ts all →
+        PartsEnd ps (below.Body n hs k ∷ b) d s (token.End end.Text (cut_mode (gap_mode k) hs) ∷ ts) all
+
+  -- bodies of here-documents come first
+  data DueGo : List Due → Gap → List Below → ℕ → Draft → List Token → Script → Type 0 where
+    due_go : {hs : List Due} {k : Gap} {b : List Below} {d : ℕ} {s t : Draft} {ts mid : List Token} {all : Script} →
+        Bodies (gap_mode k) hs d s ts mid t → GapGoes k b d t mid all → DueGo hs k b d s ts all
+
+  -- newlines may come first
+  data GapGoes : Gap → List Below → ℕ → Draft → List Token → Script → Type 0 where
+    gap_goes : {k : Gap} {b : List Below} {d : ℕ} {s t : Draft} {ts mid : List Token} {all : Script} →
+        Newlines (gap_mode k) d s ts mid t → GapEnds k b d t mid all → GapGoes k b d s ts all
+
+  data GapEnds : Gap → List Below → ℕ → Draft → List Token → Script → Type 0 where
+    begin_ends : {is : List AndOr} {b : List Below} {d : ℕ} {s : Draft} {ts : List Token} {all : Script} →
+        Finishes is b d s ts all → GapEnds (gap.Begin is) b d s ts all
+    begin_goes : {is : List AndOr} {b : List Below} {d : ℕ} {s : Draft} {ts : List Token} {all : Script} →
+        PipelineGoes is None b d s ts all → GapEnds (gap.Begin is) b d s ts all
+    join_goes : {is : List AndOr} {a : AndOr} {j : Join} {b : List Below} {d : ℕ} {s : Draft} {ts : List Token} {all : Script} →
+        PipelineGoes is (Some (a, j)) b d s ts all → GapEnds (gap.Join is a j) b d s ts all
+    stage_goes : {b : List Below} {d : ℕ} {s : Draft} {ts : List Token} {all : Script} → CommandGoes b d s ts all → GapEnds gap.Stage b d s ts all
+    function_goes : {f : List ℕ} {x : Compound} {rs : List Redir} {b : List Below} {d : ℕ} {s t u : Draft} {ts mid rest : List Token} {all : Script} →
+        OneCompound d (begin_body s) ts mid x t → Redirs d t [] mid rest rs u →
+        CommandEnds (command.Function f (next_body s)) b d (end_body (next_body s) (command.Compound x rs) u) rest all → GapEnds (gap.Function f) b d s ts all
+    in_goes : {w : Word} {arms : List (List Word × ℕ)} {b : List Below} {d : ℕ} {s t : Draft} {ts mid : List Token} {all : Script} →
+        Arms d s [] ts mid arms t → RedirsGo (compound.Case w arms) [] b (suc d) t mid all → GapEnds (gap.In w) b d s (token.Operator op.CaseIn ∷ ts) all
+    arms_end : {c : Case} {b : List Below} {d : ℕ} {s : Draft} {ts : List Token} {all : Script} →
+        RedirsGo (case c) [] b (suc d) s ts all → GapEnds (gap.Arms c) b d s (token.Operator op.Esac ∷ ts) all
+    arms_go : {c : Case} {ws : List Word} {n : ℕ} {b : List Below} {d : ℕ} {s t : Draft} {ts mid : List Token} {all : Script} →
+        OneArm d s ts mid ws n t → ArmEnds (with_arm ws n c) b d t mid all → GapEnds (gap.Arms c) b d s ts all
+    for_in : {x : List ℕ} {b : List Below} {d : ℕ} {s : Draft} {ts : List Token} {all : Script} →
+        ForGoes x [] b d s ts all → GapEnds (gap.For x) b d s (token.Operator op.In ∷ ts) all
+    for_do : {x : List ℕ} {b : List Below} {d : ℕ} {s : Draft} {ts : List Token} {all : Script} →
+        BodyGoes x None b d s ts all → GapEnds (gap.For x) b d s (token.Operator op.Do ∷ ts) all
+    do_goes : {x : List ℕ} {ws : Option (List Word)} {b : List Below} {d : ℕ} {s : Draft} {ts : List Token} {all : Script} →
+        BodyGoes x ws b d s ts all → GapEnds (gap.Do x ws) b d s (token.Operator op.Do ∷ ts) all
+
+  -- after the `do` of a `for`
+  data BodyGoes : List ℕ → Option (List Word) → List Below → ℕ → Draft → List Token → Script → Type 0 where
+    body_goes : {x : List ℕ} {ws : Option (List Word)} {is : List AndOr} {b : List Below} {d : ℕ} {s t : Draft} {ts mid : List Token} {all : Script} →
+        InList d (begin_list s) ts (token.Operator op.Done ∷ mid) is t → RedirsGo (compound.For x ws (next_list s)) [] b (suc d) (end_list (next_list s) is t) mid all →
+        BodyGoes x ws b d s ts all
+
+  -- after the `in` of a `for`
+  data ForGoes : List ℕ → List Word → List Below → ℕ → Draft → List Token → Script → Type 0 where
+    for_goes : {x : List ℕ} {ws vs : List Word} {b : List Below} {d : ℕ} {s t u : Draft} {ts mid mid' : List Token} {all : Script} →
+        ForWords d s ws ts mid vs t → Separator d t mid (token.Operator op.Do ∷ mid') u → BodyGoes x (Some vs) b d u mid' all → ForGoes x ws b d s ts all
+
+  -- after a pattern
+  data PatternsGo : Case → List Word → List Below → ℕ → Draft → List Token → Script → Type 0 where
+    patterns_end : {c : Case} {ws : List Word} {is : List AndOr} {b : List Below} {d : ℕ} {s t : Draft} {ts mid : List Token} {all : Script} →
+        MayBeList d (begin_list s) ts mid is t → ArmEnds (with_arm ws (next_list s) c) b d (end_list (next_list s) is t) mid all →
+        PatternsGo c ws b d s (token.Operator op.Close ∷ ts) all
+    patterns_go : {c : Case} {ws vs : List Word} {is : List AndOr} {b : List Below} {d : ℕ} {s t u : Draft} {ts mid mid' : List Token} {all : Script} →
+        Patterns d s ws ts (token.Operator op.Close ∷ mid) vs t → MayBeList d (begin_list t) mid mid' is u →
+        ArmEnds (with_arm vs (next_list t) c) b d (end_list (next_list t) is u) mid' all → PatternsGo c ws b d s (token.Operator op.PipePattern ∷ ts) all
+
+  data CommandGoes : List Below → ℕ → Draft → List Token → Script → Type 0 where
+    command_goes : {c : Command} {b : List Below} {d : ℕ} {s t : Draft} {ts mid : List Token} {all : Script} →
+        OneCommand d s ts mid c t → CommandEnds c b d t mid all → CommandGoes b d s ts all
+
+  data PipelineGoes : List AndOr → Option (AndOr × Join) → List Below → ℕ → Draft → List Token → Script → Type 0 where
+    pipeline_goes : {is : List AndOr} {before : Option (AndOr × Join)} {b : List Below} {d : ℕ} {s t : Draft} {ts mid : List Token} {all : Script} →
+        OnePipeline d s ts mid t → Continues is (this_and_or before (next_leaf s)) b d t mid all → PipelineGoes is before b d s ts all
+
+-- a simple command has one more element
+data ElementGoes : Simple → List Below → ℕ → Draft → List Token → Script → Type 0 where
+  element_goes : {c c' : Simple} {b : List Below} {d : ℕ} {s t : Draft} {ts mid : List Token} {all : Script} →
+      Elements d s c ts mid c' t → HasElement c' → CommandEnds (simple c') b d t mid all → ElementGoes c b d s ts all
+
+-- a compound command begins
+data CompoundGoes : List Below → ℕ → Draft → List Token → Script → Type 0 where
+  compound_goes : {x : Compound} {b : List Below} {d : ℕ} {s t : Draft} {ts mid : List Token} {all : Script} →
+      OneCompound d s ts mid x t → RedirsGo x [] b d t mid all → CompoundGoes b d s ts all
+
+data DelimiterGoes : ℕ → Bool → Host → List Below → ℕ → Draft → List Token → Script → Type 0 where
+  simple_here : {fd : ℕ} {strip quoted : Bool} {x : List ℕ} {c : Simple} {b : List Below} {d : ℕ} {s : Draft} {ts : List Token} {all : Script} →
+      ElementsGo (with_redir (here_redir fd (next_here s)) c) b d (begin_here x strip quoted s) ts all →
+      DelimiterGoes fd strip (host.Simple c) b d s (token.Delimiter x quoted (mode_before c.words) ∷ ts) all
+  compound_here : {fd : ℕ} {strip quoted : Bool} {x : List ℕ} {c : Compound} {rs : List Redir} {b : List Below} {d : ℕ} {s : Draft} {ts : List Token} {all : Script} →
+      RedirsGo c (rs ++ here_redir fd (next_here s) ∷ []) b d (begin_here x strip quoted s) ts all →
+      DelimiterGoes fd strip (host.Compound c rs) b d s (token.Delimiter x quoted mode.Arguments ∷ ts) all
+
+data NamedGoes : List ℕ → List Below → ℕ → Draft → List Token → Script → Type 0 where
+  named_goes : {x : List ℕ} {b : List Below} {d : ℕ} {s : Draft} {ts : List Token} {all : Script} →
+      GapGoes (gap.Function x) b d s ts all → NamedGoes x b d s (token.Operator op.Close ∷ ts) all
+
+data NameGoes : List ℕ → List Below → ℕ → Draft → List Token → Script → Type 0 where
+  name_goes : {x : List ℕ} {b : List Below} {d : ℕ} {s : Draft} {ts : List Token} {all : Script} →
+      NamedGoes x b d s ts all → NameGoes x b d s (token.Operator op.Open ∷ ts) all
+
+-- after the name of a `for`
+data ForNamedGoes : List ℕ → List Below → ℕ → Draft → List Token → Script → Type 0 where
+  named_words : {x : List ℕ} {b : List Below} {d : ℕ} {s t : Draft} {ts mid : List Token} {all : Script} →
+      Newlines mode.Command d s ts (token.Operator op.In ∷ mid) t → ForGoes x [] b d t mid all → ForNamedGoes x b d s ts all
+  named_do : {x : List ℕ} {b : List Below} {d : ℕ} {s t : Draft} {ts mid : List Token} {all : Script} →
+      MaySeparate d s ts (token.Operator op.Do ∷ mid) t → BodyGoes x None b d t mid all → ForNamedGoes x b d s ts all
+
+data ForNameGoes : List ℕ → List Below → ℕ → Draft → List Token → Script → Type 0 where
+  for_name_goes : {x : List ℕ} {b : List Below} {d : ℕ} {s : Draft} {ts : List Token} {all : Script} →
+      ForNamedGoes x b d s ts all → ForNameGoes x b d s (token.End end.Word mode.Command ∷ ts) all
+
+data ForStarts : List Below → ℕ → Draft → List Token → Script → Type 0 where
+  for_starts : {x : List ℕ} {b : List Below} {d : ℕ} {s : Draft} {ts : List Token} {all : Script} →
+      is_name x ≡ true → ForNameGoes x b d s ts all → ForStarts b d s (token.Part (bit.Piece x) ∷ ts) all
+
+-- what is still wanted
+abbrev Wants : Now → List Below → ℕ → Draft → List Token → Script → Type 0
+Wants (now.Gap k) b d s ts all = GapGoes k b d s ts all
+Wants (now.Due h hs k) b d s ts all = DueGo (h ∷ hs) k b d s ts all
+Wants (now.Parts ps) b d s ts all = PartsGo ps b d s ts all
+Wants (now.Elements c) b d s ts all = ElementsGo c b d s ts all
+Wants (now.Redirs x rs) b d s ts all = RedirsGo x rs b d s ts all
+Wants now.Bang b d s ts all = CommandGoes b d s ts all
+Wants (now.Delimiter fd strip h) b d s ts all = DelimiterGoes fd strip h b d s ts all
+Wants (now.Name x) b d s ts all = NameGoes x b d s ts all
+Wants (now.Named x) b d s ts all = NamedGoes x b d s ts all
+Wants now.For b d s ts all = ForStarts b d s ts all
+Wants (now.ForName x) b d s ts all = ForNameGoes x b d s ts all
+Wants (now.ForNamed x) b d s ts all = ForNamedGoes x b d s ts all
+Wants (now.ForWords x ws) b d s ts all = ForGoes x ws b d s ts all
+Wants (now.Patterns c ws) b d s ts all = PatternsGo c ws b d s ts all
+
+abbrev WantsAt : State → List Token → Script → Type 0
+WantsAt st ts all = Wants st.now st.below st.room st.script ts all
+
+-- the state that was reached wants these tokens
+abbrev Says : Option State → List Token → Script → Type 0
+Says None ts all = ⊥
+Says (Some st) ts all = WantsAt st ts all
+
+any-says : {A : Type 0} (xs : List A) (o : Option State) (ts : List Token) (all : Script) → Says (if_any xs o) ts all → NotEmpty xs × Says o ts all
+any-says [] o ts all h = absurd h
+any-says (x ∷ xs) o ts all h = (tt, h)
+
+when-says : (b : Bool) (o : Option State) (ts : List Token) (all : Script) → Says (when b o) ts all → (b ≡ true) × Says o ts all
+when-says true o ts all h = (refl, h)
+when-says false o ts all h = absurd h
+
+-- ---- openings
+
+-- the list inside an opening
+data Opened : List Below → ℕ → Draft → List Token → Script → Type 0 where
+  opened_empty : {b : List Below} {d : ℕ} {s t : Draft} {ts mid : List Token} {all : Script} →
+      Newlines mode.Command d s ts mid t → Finishes [] b d t mid all → Opened b d s ts all
+  opened_some : {is : List AndOr} {b : List Below} {d : ℕ} {s t : Draft} {ts mid : List Token} {all : Script} →
+      InList d s ts mid is t → Finishes is b d t mid all → Opened b d s ts all
+
+opened-list : {b : List Below} {d : ℕ} {s : Draft} {ts : List Token} {all : Script} → GapGoes (gap.Begin []) b d s ts all → Opened b d s ts all
+opened-list (gap_goes n (begin_ends f)) = opened_empty n f
+opened-list (gap_goes n (begin_goes (pipeline_goes p (continues r f)))) = opened_some (g.list n p r) f
+
+opened-body : {x : List ℕ} {ws : Option (List Word)} {b : List Below} {d : ℕ} (s : Draft) {ts : List Token} {all : Script} →
+    Opened (below.ForDo x ws (next_list s) ∷ b) d (begin_list s) ts all → BodyGoes x ws b d s ts all
+opened-body s (opened_empty n (in_for h k)) = absurd h
+opened-body s (opened_some l (in_for h k)) = body_goes l k
+
+due-of : (hs : List Due) (k : Gap) (b : List Below) (d : ℕ) (s : Draft) (ts : List Token) (all : Script) → Wants (next_due hs k) b d s ts all → DueGo hs k b d s ts all
+due-of [] k b d s ts all h = due_go g.no_body h
+due-of (x ∷ hs) k b d s ts all h = h
+
+-- a newline, with the bodies that are due
+newline-says : (k : Gap) (b : List Below) (d : ℕ) (s : Draft) (n : Mode) (ts : List Token) (all : Script) → Says (m.newline k b d s n) ts all →
+    (cut_mode (gap_mode k) s.due ≡ n) × DueGo s.due k b d (none_due s) ts all
+newline-says k b d s n ts all h =
+    let q = when-says (same_mode (cut_mode (gap_mode k) s.due) n) _ ts all h in
+    (same_mode-is _ n q.0, due-of s.due k b d (none_due s) ts all q.1)
+
+-- ---- parts
+
+redirect-ends : (ps : List Part) (fd : ℕ) (o : RedirOp) (h : Host) (b : List Below) (d : ℕ) (s : Draft) (ts : List Token) (all : Script) → NotEmpty ps →
+    Wants (m.redirected (redir fd o ps) h) b d s ts all → PartsEnd ps (below.Redirect fd o h ∷ b) d s (token.End end.Word (host_mode h) ∷ ts) all
+redirect-ends ps fd o (host.Simple c) b d s ts all h k = end_redirect h k
+redirect-ends ps fd o (host.Compound x rs) b d s ts all h k = end_compound_redirect h k
+
+-- what holds of this token holds of the one that was seen
+at-end : (P : Token → Type 0) (e : End) (n : Mode) (t : Token) → is_end e n t ≡ true → P (token.End e n) → P t
+at-end P e n t q h = subst P (sym (is_end-is e n t q)) h
+
+at-op : (P : Token → Type 0) (o : Op) (t : Token) → is_op o t ≡ true → P (token.Operator o) → P t
+at-op P o t q h = subst P (sym (is_op-is o t q)) h
+
+parts_end-says : (ps : List Part) (f : Below) (b : List Below) (d : ℕ) (s : Draft) (t : Token) (ts : List Token) (all : Script) →
+    Says (m.parts_end ps f b d s t) ts all → PartsEnd ps (f ∷ b) d s (t ∷ ts) all
+parts_end-says ps (below.Argument c) b d s t ts all h =
+    let q = when-says (is_end end.Word mode.Arguments t) _ ts all h in let k = any-says ps _ ts all q.1 in
+    at-end (λ x. PartsEnd ps (below.Argument c ∷ b) d s (x ∷ ts) all) end.Word mode.Arguments t q.0 (end_argument k.0 k.1)
+parts_end-says ps (below.Assign x c) b d s t ts all h =
+    let q = when-says (is_end end.Word mode.Prefix t) _ ts all h in
+    at-end (λ y. PartsEnd ps (below.Assign x c ∷ b) d s (y ∷ ts) all) end.Word mode.Prefix t q.0 (end_assign q.1)
+parts_end-says ps (below.Redirect fd o r) b d s t ts all h =
+    let q = when-says (is_end end.Word (host_mode r) t) _ ts all h in let k = any-says ps _ ts all q.1 in
+    at-end (λ x. PartsEnd ps (below.Redirect fd o r ∷ b) d s (x ∷ ts) all) end.Word (host_mode r) t q.0 (redirect-ends ps fd o r b d s ts all k.0 k.1)
+parts_end-says ps (below.ForWord x ws) b d s t ts all h =
+    let q = when-says (is_end end.Word mode.Arguments t) _ ts all h in let k = any-says ps _ ts all q.1 in
+    at-end (λ y. PartsEnd ps (below.ForWord x ws ∷ b) d s (y ∷ ts) all) end.Word mode.Arguments t q.0 (end_for_word k.0 k.1)
+parts_end-says ps below.CaseWord b d s t ts all h =
+    let q = when-says (is_end end.Word mode.Command t) _ ts all h in let k = any-says ps _ ts all q.1 in
+    at-end (λ x. PartsEnd ps (below.CaseWord ∷ b) d s (x ∷ ts) all) end.Word mode.Command t q.0 (end_case_word k.0 k.1)
+parts_end-says ps (below.Pattern c ws) b d s t ts all h =
+    let q = when-says (is_end end.Word mode.Arguments t) _ ts all h in let k = any-says ps _ ts all q.1 in
+    at-end (λ x. PartsEnd ps (below.Pattern c ws ∷ b) d s (x ∷ ts) all) end.Word mode.Arguments t q.0 (end_pattern k.0 k.1)
+parts_end-says ps (below.Double qs n) b d s t ts all h =
+    let q = when-says (is_end end.Quote n t) _ ts all h in
+    at-end (λ x. PartsEnd ps (below.Double qs n ∷ b) d s (x ∷ ts) all) end.Quote n t q.0 (end_double q.1)
+parts_end-says ps (below.Braces qs x o c n) b d s t ts all h =
+    let q = when-says (is_end end.Brace n t) _ ts all h in
+    at-end (λ y. PartsEnd ps (below.Braces qs x o c n ∷ b) d s (y ∷ ts) all) end.Brace n t q.0 (end_braces q.1)
+parts_end-says ps (below.Arith qs n) b d s t ts all h =
+    let q = when-says (is_end end.Arith n t) _ ts all h in
+    at-end (λ x. PartsEnd ps (below.Arith qs n ∷ b) d s (x ∷ ts) all) end.Arith n t q.0 (end_arith q.1)
+parts_end-says ps (below.Body n hs k) b d s t ts all h =
+    let q = when-says (is_end end.Text (cut_mode (gap_mode k) hs) t) _ ts all h in
+    at-end (λ x. PartsEnd ps (below.Body n hs k ∷ b) d s (x ∷ ts) all) end.Text (cut_mode (gap_mode k) hs) t q.0
+        (end_here_body (due-of hs k b d (end_here n (part.Double ps) s) ts all q.1))
+parts_end-says ps f b d s t ts all h = absurd h
+
+parts_ended-says : (ps : List Part) (b : List Below) (d : ℕ) (s : Draft) (t : Token) (ts : List Token) (all : Script) →
+    Says (m.parts_ended ps b d s t) ts all → PartsEnd ps b d s (t ∷ ts) all
+parts_ended-says ps [] d s t ts all h = absurd h
+parts_ended-says ps (f ∷ b) d s t ts all h = parts_end-says ps f b d s t ts all h
+
+double-opens : {ps : List Part} {n : Mode} {b : List Below} {d : ℕ} {s : Draft} {ts : List Token} {all : Script} →
+    PartsGo [] (below.Double ps n ∷ b) d s ts all → PartsGo ps b d s (token.Open opener.Double n ∷ ts) all
+double-opens (parts_go p (end_double (parts_go r e))) = parts_go (g.double p r) e
+
+braces-open : {ps : List Part} {x : List ℕ} {o : ParamOp} {c q : Bool} {n : Mode} {b : List Below} {d : ℕ} {s : Draft} {ts : List Token} {all : Script} →
+    PartsGo [] (below.Braces ps x o c n ∷ b) d s ts all → PartsGo ps b (suc d) s (token.Open (opener.Braces x o c q) n ∷ ts) all
+braces-open (parts_go p (end_braces (parts_go r e))) = parts_go (g.braces p r) e
+
+arith-opens : {ps : List Part} {n : Mode} {b : List Below} {d : ℕ} {s : Draft} {ts : List Token} {all : Script} →
+    PartsGo [] (below.Arith ps n ∷ b) d s ts all → PartsGo ps b (suc d) s (token.Open opener.Arith n ∷ ts) all
+arith-opens (parts_go p (end_arith (parts_go r e))) = parts_go (g.arith p r) e
+
+substitution-opens : {ps : List Part} {n : Mode} {b : List Below} {d : ℕ} (s : Draft) {ts : List Token} {all : Script} →
+    Opened (below.Command ps n (next_list s) ∷ b) d (begin_list s) ts all → PartsGo ps b (suc d) s (token.Open opener.Command n ∷ ts) all
+substitution-opens s (opened_empty l (in_substitution (parts_go r e))) = parts_go (g.substitution (g.empty l) r) e
+substitution-opens s (opened_some l (in_substitution (parts_go r e))) = parts_go (g.substitution (g.some l) r) e
+
+backquotes-open : {ps : List Part} {n : Mode} {b : List Below} {d : ℕ} (s : Draft) {ts : List Token} {all : Script} →
+    Opened (below.Backquote ps n (next_list s) ∷ b) d (begin_list s) ts all → PartsGo ps b (suc d) s (token.Open opener.Backquote n ∷ ts) all
+backquotes-open s (opened_empty l (in_backquotes (parts_go r e))) = parts_go (g.backquotes (g.empty l) r) e
+backquotes-open s (opened_some l (in_backquotes (parts_go r e))) = parts_go (g.backquotes (g.some l) r) e
+
+open_part-says : (ps : List Part) (b : List Below) (d : ℕ) (s : Draft) (n : Mode) (o : Opener) (ts : List Token) (all : Script) →
+    Says (m.open_part ps b d s n o) ts all → PartsGo ps b d s (token.Open o n ∷ ts) all
+open_part-says ps b d s n opener.Double ts all h = double-opens h
+open_part-says ps b zero s n (opener.Braces x o c q) ts all h = absurd h
+open_part-says ps b (suc d) s n (opener.Braces x o c q) ts all h = braces-open h
+open_part-says ps b zero s n opener.Command ts all h = absurd h
+open_part-says ps b (suc d) s n opener.Command ts all h = substitution-opens s (opened-list h)
+open_part-says ps b zero s n opener.Arith ts all h = absurd h
+open_part-says ps b (suc d) s n opener.Arith ts all h = arith-opens h
+open_part-says ps b zero s n opener.Backquote ts all h = absurd h
+open_part-says ps b (suc d) s n opener.Backquote ts all h = backquotes-open s (opened-list h)
+
+bit-goes : {ps : List Part} {x : Bit} {b : List Below} {d : ℕ} {s : Draft} {ts : List Token} {all : Script} →
+    PartsGo (ps ++ g.part_of x ∷ []) b d s ts all → PartsGo ps b d s (token.Part x ∷ ts) all
+bit-goes (parts_go r e) = parts_go (g.one_bit r) e
+
+param-goes : {ps : List Part} {x : List ℕ} {l : Bool} {b : List Below} {d : ℕ} {s : Draft} {ts : List Token} {all : Script} →
+    PartsGo (ps ++ g.param_of x l ∷ []) b (suc d) s ts all → PartsGo ps b (suc d) s (token.Param x l ∷ ts) all
+param-goes (parts_go r e) = parts_go (g.param r) e
+
+parts-says : (ps : List Part) (b : List Below) (d : ℕ) (s : Draft) (t : Token) (ts : List Token) (all : Script) →
+    Says (m.parts ps b d s t) ts all → PartsGo ps b d s (t ∷ ts) all
+parts-says ps b d s (token.Part x) ts all h = bit-goes h
+parts-says ps b zero s (token.Param x l) ts all h = absurd h
+parts-says ps b (suc d) s (token.Param x l) ts all h = param-goes h
+parts-says ps b d s (token.Open o n) ts all h = open_part-says ps b d s n o ts all h
+parts-says ps b d s (token.End e n) ts all h = parts_go g.parts_end (parts_ended-says ps b d s (token.End e n) ts all h)
+parts-says ps b d s t ts all h = absurd h
+
+-- ---- lists that end
+
+-- the list after `then`
+then-opens : {is : List AndOr} {bs : List (ℕ × ℕ)} {n : ℕ} {b : List Below} {d : ℕ} (s : Draft) {ts : List Token} {all : Script} → NotEmpty is →
+    Opened (below.Then bs n (next_list s) ∷ b) d (begin_list (end_list n is s)) ts all → Finishes is (below.Test bs n ∷ b) d s (token.Operator op.Then ∷ ts) all
+then-opens s h (opened_empty l (in_then k r e)) = absurd k
+then-opens s h (opened_some l (in_then k r e)) = in_test h l r e
+
+while-opens : {is : List AndOr} {until : Bool} {n : ℕ} {b : List Below} {d : ℕ} (s : Draft) {ts : List Token} {all : Script} → NotEmpty is →
+    Opened (below.WhileDo until n (next_list s) ∷ b) d (begin_list (end_list n is s)) ts all → Finishes is (below.While until n ∷ b) d s (token.Operator op.Do ∷ ts) all
+while-opens s h (opened_empty l (in_while_do k e)) = absurd k
+while-opens s h (opened_some l (in_while_do k e)) = in_while h l e
+
+elif-opens : {is : List AndOr} {bs : List (ℕ × ℕ)} {n k : ℕ} {b : List Below} {d : ℕ} (s : Draft) {ts : List Token} {all : Script} → NotEmpty is →
+    Opened (below.Test (bs ++ (n, k) ∷ []) (next_list (end_list k is s)) ∷ b) d (begin_list (end_list k is s)) ts all →
+    Finishes is (below.Then bs n k ∷ b) d s (token.Operator op.Elif ∷ ts) all
+elif-opens s h (opened_empty l (in_test q j r e)) = absurd q
+elif-opens s h (opened_some l (in_test q j r e)) = in_then h (g.elif (g.branch l j r)) e
+
+else-opens : {is : List AndOr} {bs : List (ℕ × ℕ)} {n k : ℕ} {b : List Below} {d : ℕ} (s : Draft) {ts : List Token} {all : Script} → NotEmpty is →
+    Opened (below.Else (bs ++ (n, k) ∷ []) (next_list (end_list k is s)) ∷ b) d (begin_list (end_list k is s)) ts all →
+    Finishes is (below.Then bs n k ∷ b) d s (token.Operator op.Else ∷ ts) all
+else-opens s h (opened_empty l (in_else q e)) = absurd q
+else-opens s h (opened_some l (in_else q e)) = in_then h (g.otherwise l) e
+
+branch-says : (is : List AndOr) (bs : List (ℕ × ℕ)) (n k : ℕ) (b : List Below) (d : ℕ) (s : Draft) (o : Op) (ts : List Token) (all : Script) → NotEmpty is →
+    Says (m.after_branch (bs ++ (n, k) ∷ []) b d (end_list k is s) o) ts all → Finishes is (below.Then bs n k ∷ b) d s (token.Operator o ∷ ts) all
+branch-says is bs n k b d s op.Fi ts all h e = in_then h g.fi e
+branch-says is bs n k b d s op.Elif ts all h e = elif-opens s h (opened-list e)
+branch-says is bs n k b d s op.Else ts all h e = else-opens s h (opened-list e)
+branch-says is bs n k b d s o ts all h e = absurd e
+
+then-says : (is : List AndOr) (bs : List (ℕ × ℕ)) (n k : ℕ) (b : List Below) (d : ℕ) (s : Draft) (t : Token) (ts : List Token) (all : Script) → NotEmpty is →
+    Says (m.on_op (m.after_branch (bs ++ (n, k) ∷ []) b d (end_list k is s)) t) ts all → Finishes is (below.Then bs n k ∷ b) d s (t ∷ ts) all
+then-says is bs n k b d s (token.Operator o) ts all h e = branch-says is bs n k b d s o ts all h e
+then-says is bs n k b d s t ts all h e = absurd e
+
+-- before the next arm
+arms-go : {c : Case} {b : List Below} {d : ℕ} {s : Draft} {ts : List Token} {all : Script} → GapGoes (gap.Arms c) b d s ts all →
+    ArmEnds c b d s (token.Operator op.DoubleSemi ∷ ts) all
+arms-go (gap_goes n (arms_end e)) = arm_semis (g.no_arm n) e
+arms-go (gap_goes n (arms_go a (arm_esac e))) = arm_semis (g.last_arm n a) e
+arms-go (gap_goes n (arms_go a (arm_semis r e))) = arm_semis (g.more_arms n a r) e
+
+after_arm-says : (c : Case) (b : List Below) (d : ℕ) (s : Draft) (o : Op) (ts : List Token) (all : Script) →
+    Says (m.after_arm c b d s o) ts all → ArmEnds c b d s (token.Operator o ∷ ts) all
+after_arm-says c b d s op.Esac ts all h = arm_esac h
+after_arm-says c b d s op.DoubleSemi ts all h = arms-go h
+after_arm-says c b d s o ts all h = absurd h
+
+arm-says : (c : Case) (b : List Below) (d : ℕ) (s : Draft) (t : Token) (ts : List Token) (all : Script) →
+    Says (m.on_op (m.after_arm c b d s) t) ts all → ArmEnds c b d s (t ∷ ts) all
+arm-says c b d s (token.Operator o) ts all h = after_arm-says c b d s o ts all h
+arm-says c b d s t ts all h = absurd h
+
+list_end-says : (is : List AndOr) (f : Below) (b : List Below) (d : ℕ) (s : Draft) (t : Token) (ts : List Token) (all : Script) →
+    Says (m.list_end is f b d s t) ts all → Finishes is (f ∷ b) d s (t ∷ ts) all
+list_end-says is (below.Group n) b d s t ts all h =
+    let q = when-says (is_op op.RightBrace t) _ ts all h in let k = any-says is _ ts all q.1 in
+    at-op (λ x. Finishes is (below.Group n ∷ b) d s (x ∷ ts) all) op.RightBrace t q.0 (in_group k.0 k.1)
+list_end-says is (below.Subshell n) b d s t ts all h =
+    let q = when-says (is_op op.Close t) _ ts all h in let k = any-says is _ ts all q.1 in
+    at-op (λ x. Finishes is (below.Subshell n ∷ b) d s (x ∷ ts) all) op.Close t q.0 (in_subshell k.0 k.1)
+list_end-says is (below.Test bs n) b d s t ts all h =
+    let q = when-says (is_op op.Then t) _ ts all h in let k = any-says is _ ts all q.1 in
+    at-op (λ x. Finishes is (below.Test bs n ∷ b) d s (x ∷ ts) all) op.Then t q.0 (then-opens s k.0 (opened-list k.1))
+list_end-says is (below.Then bs n l) b d s t ts all h = let k = any-says is _ ts all h in then-says is bs n l b d s t ts all k.0 k.1
+list_end-says is (below.Else bs n) b d s t ts all h =
+    let q = when-says (is_op op.Fi t) _ ts all h in let k = any-says is _ ts all q.1 in
+    at-op (λ x. Finishes is (below.Else bs n ∷ b) d s (x ∷ ts) all) op.Fi t q.0 (in_else k.0 k.1)
+list_end-says is (below.While u n) b d s t ts all h =
+    let q = when-says (is_op op.Do t) _ ts all h in let k = any-says is _ ts all q.1 in
+    at-op (λ x. Finishes is (below.While u n ∷ b) d s (x ∷ ts) all) op.Do t q.0 (while-opens s k.0 (opened-list k.1))
+list_end-says is (below.WhileDo u n l) b d s t ts all h =
+    let q = when-says (is_op op.Done t) _ ts all h in let k = any-says is _ ts all q.1 in
+    at-op (λ x. Finishes is (below.WhileDo u n l ∷ b) d s (x ∷ ts) all) op.Done t q.0 (in_while_do k.0 k.1)
+list_end-says is (below.ForDo y ws n) b d s t ts all h =
+    let q = when-says (is_op op.Done t) _ ts all h in let k = any-says is _ ts all q.1 in
+    at-op (λ x. Finishes is (below.ForDo y ws n ∷ b) d s (x ∷ ts) all) op.Done t q.0 (in_for k.0 k.1)
+list_end-says is (below.Arm c ws n) b d s t ts all h = in_arm (arm-says (with_arm ws n c) b d (end_list n is s) t ts all h)
+list_end-says is (below.Command ps n l) b d s t ts all h =
+    let q = when-says (is_end end.List n t) _ ts all h in
+    at-end (λ x. Finishes is (below.Command ps n l ∷ b) d s (x ∷ ts) all) end.List n t q.0 (in_substitution q.1)
+list_end-says is (below.Backquote ps n l) b d s t ts all h =
+    let q = when-says (is_end end.Text n t) _ ts all h in
+    at-end (λ x. Finishes is (below.Backquote ps n l ∷ b) d s (x ∷ ts) all) end.Text n t q.0 (in_backquotes q.1)
+list_end-says is f b d s t ts all h = absurd h
+
+list_ended-says : (is : List AndOr) (b : List Below) (d : ℕ) (s : Draft) (t : Token) (ts : List Token) (all : Script) →
+    Says (list_ended is b d s t) ts all → Finishes is b d s (t ∷ ts) all
+list_ended-says is [] d s t ts all h = absurd h
+list_ended-says is (f ∷ b) d s t ts all h = list_end-says is f b d s t ts all h
