@@ -1,5 +1,5 @@
--- Classes of bytes.
-use Rattle.std.specs.Prelude.{ℕ, Bool, true, false, ◌&&◌, ◌||◌, ◌==◌, nat_le, List, [], ◌∷◌}
+-- Classes of bytes, and runs of them.
+use Rattle.std.specs.Prelude.{ℕ, Bool, true, false, not, ◌&&◌, ◌||◌, ◌==◌, ◌+◌, ◌*◌, ◌-◌, nat_le, List, [], ◌∷◌, Option, Some, None}
 
 abbrev pub between : ℕ → ℕ → ℕ → Bool
 between low high b = nat_le low b && nat_le b high
@@ -22,3 +22,87 @@ all_in_name (b ∷ r) = in_name b && all_in_name r
 abbrev pub is_name : List ℕ → Bool
 is_name [] = false
 is_name (b ∷ r) = begins_name b && all_in_name r
+
+-- space and tab
+abbrev pub blank : ℕ → Bool
+blank b = b == 32 || b == 9
+
+-- A byte that ends a word where it isn't quoted: a blank, a newline, or one of & ( ) ; < > |
+abbrev pub delimits : ℕ → Bool
+delimits b = blank b || b == 10 || b == 38 || b == 40 || b == 41 || b == 59 || b == 60 || b == 62 || b == 124
+
+abbrev pub ends_word : List ℕ → Bool
+ends_word [] = true
+ends_word (b ∷ r) = delimits b
+
+-- NUL, `$`, backquote and backslash stand for themselves nowhere but in single quotes
+abbrev pub special : ℕ → Bool
+special b = b == 0 || b == 36 || b == 92 || b == 96
+
+-- a byte that stands for itself in a word
+abbrev pub plain : ℕ → Bool
+plain b = not (delimits b || special b || b == 34 || b == 39)
+
+-- in double quotes
+abbrev pub quoted_plain : ℕ → Bool
+quoted_plain b = not (special b || b == 34)
+
+-- in the word of `${x-`, outside and inside double quotes
+abbrev pub braces_plain : ℕ → Bool
+braces_plain b = not (special b || b == 34 || b == 39 || b == 125)
+
+abbrev pub quoted_braces_plain : ℕ → Bool
+quoted_braces_plain b = not (special b || b == 34 || b == 125)
+
+-- in the body of a here-document
+abbrev pub body_plain : ℕ → Bool
+body_plain b = not (special b)
+
+-- ---- joined lines: a backslash and a newline (XCU 2.2.1)
+
+abbrev pub joins : ℕ → ℕ → Bool
+joins b c = b == 92 && c == 10
+
+-- the text without the joined lines at its front
+unfoldable pub peel : List ℕ → List ℕ
+peel [] = []
+peel (b ∷ []) = b ∷ []
+peel (b ∷ c ∷ r) = elim (joins b c) [ true ↦ peel r | false ↦ b ∷ c ∷ r ]
+
+-- up to the newline, or to a NUL (XCU 2.3, rule 9). A backslash is a plain byte here
+unfoldable pub comment : List ℕ → List ℕ
+comment [] = []
+comment (b ∷ r) = elim (b == 10 || b == 0) [ true ↦ b ∷ r | false ↦ comment r ]
+
+-- the text without blanks, joined lines and a comment at its front
+unfoldable pub skip : List ℕ → List ℕ
+unfolding comment
+skip [] = []
+skip (b ∷ []) = elim (blank b) [ true ↦ [] | false ↦ elim (b == 35) [ true ↦ [] | false ↦ b ∷ [] ] ]
+skip (b ∷ c ∷ r) = elim (blank b) [
+  | true ↦ skip (c ∷ r)
+  | false ↦ elim (joins b c) [ true ↦ skip r | false ↦ elim (b == 35) [ true ↦ comment (c ∷ r) | false ↦ b ∷ c ∷ r ] ]
+]
+
+abbrev pub onto : ℕ → List ℕ × List ℕ → List ℕ × List ℕ
+onto b p = (b ∷ p.0, p.1)
+
+-- the longest run of bytes that pass the test, without joined lines, and the bytes after it
+unfoldable pub piece : (ℕ → Bool) → List ℕ → List ℕ × List ℕ
+piece p [] = ([], [])
+piece p (b ∷ []) = elim (p b) [ true ↦ (b ∷ [], []) | false ↦ ([], b ∷ []) ]
+piece p (b ∷ c ∷ r) = elim (joins b c) [ true ↦ piece p r | false ↦ elim (p b) [ true ↦ onto b (piece p (c ∷ r)) | false ↦ ([], b ∷ c ∷ r) ] ]
+
+-- up to the next single quote (XCU 2.2.2)
+unfoldable pub single : List ℕ → Option (List ℕ × List ℕ)
+single [] = None
+single (b ∷ r) = elim (b == 39) [ true ↦ Some ([], r) | false ↦ elim (single r) [ None ↦ None | Some p ↦ Some (onto b p) ] ]
+
+abbrev pub has_nul : List ℕ → Bool
+has_nul [] = false
+has_nul (b ∷ r) = b == 0 || has_nul r
+
+-- the number that digits stand for, after those before
+unfoldable pub number : ℕ → List ℕ → ℕ
+number n [] = n
+number n (b ∷ r) = number (n * 10 + (b - 48)) r

@@ -1,2 +1,5 @@
 pub mod Bytes
+pub mod Cut
+pub mod Lex
+pub mod Lexes
 pub mod Modes
