@@ -38,6 +38,14 @@ ends e r = got (token.End e mode.Command) r
 abbrev pub plain_text : List ℕ × List ℕ → Lexed
 plain_text p = got (token.Part (bit.Piece p.0)) p.1
 
+abbrev pub begins_nul : List ℕ → Bool
+begins_nul [] = false
+begins_nul (b ∷ r) = b == 0
+
+-- plain bytes that may be newlines: with a NUL behind them they are no token
+abbrev pub quoted_text : List ℕ × List ℕ → Lexed
+quoted_text p = if begins_nul p.1 then bad Nul else plain_text p
+
 -- a byte that stands for itself though others like it don't
 abbrev pub alone : ℕ → List ℕ → Lexed
 alone b r = got (token.Part (bit.Piece (b ∷ []))) r
@@ -199,7 +207,7 @@ bit_at m p (b ∷ r) =
     if special b then special_at m escaped b r else (
     if b == 39 then single_text (single r) else (
     if b == 34 then got (token.Open opener.Double m) r else (
-    if p b then plain_text (piece p (b ∷ r)) else bad Unexpected)))
+    if p b then quoted_text (piece p (b ∷ r)) else bad Unexpected)))
 
 unfoldable pub in_word : List ℕ → Lexed
 in_word t = if ends_word t then ends end.Word t else bit_at mode.Word plain t
@@ -208,7 +216,7 @@ unfoldable pub in_quotes : List ℕ → Lexed
 in_quotes [] = done
 in_quotes (b ∷ r) =
     if special b then special_at mode.Quotes (escaped_if quotes_escapable) b r else (
-    if b == 34 then ends end.Quote r else plain_text (piece quoted_plain (b ∷ r)))
+    if b == 34 then ends end.Quote r else quoted_text (piece quoted_plain (b ∷ r)))
 
 -- the word of `${x-`
 unfoldable pub in_plain_braces : List ℕ → Lexed
@@ -220,7 +228,7 @@ in_quoted_braces [] = done
 in_quoted_braces (b ∷ r) =
     if special b then special_at (mode.Braces true) (escaped_if braces_escapable) b r else (
     if b == 125 then ends end.Brace r else (
-    if b == 34 then got (token.Open opener.Double (mode.Braces true)) r else plain_text (piece quoted_braces_plain (b ∷ r))))
+    if b == 34 then got (token.Open opener.Double (mode.Braces true)) r else quoted_text (piece quoted_braces_plain (b ∷ r))))
 
 abbrev pub in_word_of : Bool → List ℕ → Lexed
 in_word_of true t = in_quoted_braces t
@@ -258,7 +266,7 @@ sum n (b ∷ c ∷ r) = elim (joins b c) [
 ]
 
 abbrev pub sum_text : List ℕ × ℕ × List ℕ → Lexed
-sum_text p = got (token.Part (bit.Sum p.0 p.1)) p.2
+sum_text p = if begins_nul p.2 then bad Nul else got (token.Part (bit.Sum p.0 p.1)) p.2
 
 abbrev pub after_first : List ℕ → List ℕ
 after_first [] = []
@@ -275,7 +283,7 @@ in_arith n (b ∷ r) =
 unfoldable pub in_body : List ℕ → Lexed
 in_body [] = done
 in_body (b ∷ r) =
-    if special b then special_at mode.Body (escaped_if escapable) b r else plain_text (piece body_plain (b ∷ r))
+    if special b then special_at mode.Body (escaped_if escapable) b r else quoted_text (piece body_plain (b ∷ r))
 
 abbrev pub verbatim : List ℕ × List ℕ → Lexed
 verbatim p = if has_nul p.0 then bad Nul else got (token.Verbatim p.0 mode.Command) p.1
