@@ -1,8 +1,7 @@
 -- What the grammar derives, the machine reads.
-use Rattle.std.proofs.Common.{◌≡◌, Bool, true, false, cond, ℕ, suc, List, [], ◌∷◌, ◌++◌, Option, Some, None, refl, sym, ◌∙◌, ap}
+use Rattle.std.proofs.Common.{◌≡◌, Bool, true, false, cond, ℕ, suc, List, [], ◌∷◌, ◌++◌, Option, Some, None, refl, ◌∙◌, ap}
 use Rattle.std.specs.Prelude.{option_and_then}
 use Rattle.sh_syntax.specs.declared.tree.Part.{Part}
-use Rattle.sh_syntax.specs.declared.tree.Part.TheVariants as part
 use Rattle.sh_syntax.specs.declared.tree.Word.{Word}
 use Rattle.sh_syntax.specs.declared.tree.Redir.{Redir}
 use Rattle.sh_syntax.specs.declared.tree.RedirOp.{RedirOp}
@@ -25,23 +24,20 @@ use Rattle.sh_lexer.specs.declared.token.End.{End}
 use Rattle.sh_lexer.specs.declared.token.End.TheVariants as end
 use Rattle.sh_lexer.specs.declared.token.Mode.{Mode}
 use Rattle.sh_lexer.specs.declared.token.Mode.TheVariants as mode
-use Rattle.sh_lexer.specs.Bytes.{is_name}
 use Rattle.sh_grammar.specs.declared.state.Due.{Due}
 use Rattle.sh_grammar.specs.declared.state.Draft.{Draft}
 use Rattle.sh_grammar.specs.declared.state.Simple.{Simple}
 use Rattle.sh_grammar.specs.declared.state.Pipe.{Pipe}
 use Rattle.sh_grammar.specs.declared.state.Case.{Case}
-use Rattle.sh_grammar.specs.declared.state.Host.{Host}
-use Rattle.sh_grammar.specs.declared.state.Host.TheVariants as host
 use Rattle.sh_grammar.specs.declared.state.Gap.{Gap}
 use Rattle.sh_grammar.specs.declared.state.Gap.TheVariants as gap
 use Rattle.sh_grammar.specs.declared.state.Now.TheVariants as now
 use Rattle.sh_grammar.specs.declared.state.Below.{Below}
 use Rattle.sh_grammar.specs.declared.state.Below.TheVariants as below
-use Rattle.sh_grammar.specs.Draft.{next_list, begin_list, end_list, next_leaf, begin_leaf, end_leaf, next_body, begin_body, end_body, none_due, cut_mode, and_or, joined, filled, no_draft}
+use Rattle.sh_grammar.specs.Draft.{next_list, end_list, next_leaf, begin_leaf, end_leaf, next_body, begin_body, end_body, cut_mode}
 use Rattle.sh_grammar.specs.Grammar as g
 use Rattle.sh_grammar.specs.Grammar.{NotEmpty, Parts, Bodies, Newlines, Separator, MaySeparate, OneRedir, Redirs, Elements, ForWords, Patterns, OneArm, Arms, Branches, MoreBranches, OneCompound, OneCommand, Stages, MoreStages, OnePipeline, ListRest, InList, MayBeList, MayOpen, ParsesWithin, HasElement, no_simple, simple, loop_op, join_op, mode_before}
-use Rattle.sh_grammar.specs.Tests.{same_mode, is_op, is_end, ends_list}
+use Rattle.sh_grammar.specs.Tests.{same_mode, ends_list}
 use Rattle.sh_grammar.specs.Machine as m
 use Rattle.sh_grammar.specs.Machine.{State, at, if_any, when, gap_mode, next_due, host_mode, redirected, list_ended, open_list, this_and_or, command_ended, piped, pipe, pipeline, end_with, end_command, run, start_within}
 use Rattle.sh_grammar.proofs.Tests.{same_mode-refl, same_mode-at, is_end-at}
@@ -534,7 +530,7 @@ mutual
       run (open_list (below.Test bs) b d s) ts ≡ run (at (now.Redirs (compound.If cs o) []) b (suc d) s') rest
   branches b (g.branch {d} {s} {t} {u} {bs = bs} {js = js} {mid' = mid'} k l r) =
       in_list _ k (at_op refl) ∙ (any _ _ _ (InList-some k) ∙ (in_list _ l (MoreBranches-ends r) ∙
-          (then-ends js bs (next_list s) (next_list t) b d u mid' (InList-some l) ∙ more_branches b r)))
+      (then-ends js bs (next_list s) (next_list t) b d u mid' (InList-some l) ∙ more_branches b r)))
 
   more_branches : (b : List Below) {d : ℕ} {s s' : Draft} {bs cs : List (ℕ × ℕ)} {o : Option ℕ} {ts rest : List Token} → MoreBranches d s bs ts rest cs o s' →
       after_then bs b d s ts ≡ run (at (now.Redirs (compound.If cs o) []) b (suc d) s') rest
@@ -573,11 +569,11 @@ mutual
   one_command b (g.compound_command {d} {s' = s'} {x = x} {rs = rs} k r) e = one_compound b k ∙ (redirs x b r ∙ redirs-stop x rs b d s' e)
   one_command b {rest = rest} (g.function {d} {s} {t} {u} {s'} {name} {x} {rs} n k r) e =
       newlines (gap.Function name) b n refl ∙ (function-begins name b t k ∙ (one_compound _ k ∙ (redirs x _ r ∙
-          (redirs-stop x rs _ d s' e ∙ function-ends (command.Compound x rs) name (next_body t) b d s' rest))))
+      (redirs-stop x rs _ d s' e ∙ function-ends (command.Compound x rs) name (next_body t) b d s' rest))))
 
   stages : (p : Pipe) (b : List Below) {d : ℕ} {s s' : Draft} {cs cs' : List Command} {ts rest : List Token} → Stages d s cs ts rest cs' s' → IsPipelineEnd rest →
       run (at now.Bang (below.Pipe (record p { stages = cs }) ∷ b) d s) ts
-          ≡ after_pipeline p.items (this_and_or p.before p.leaf) b d (end_leaf p.leaf p.bang cs' s') rest
+      ≡ after_pipeline p.items (this_and_or p.before p.leaf) b d (end_leaf p.leaf p.bang cs' s') rest
   stages p b (g.one_stage {d} {t = t} {c = c} {cs = cs} {mid = mid} k r) e =
       one_command _ k (MoreStages-stops r e) ∙ (stage-ends c (record p { stages = cs }) b d t mid ∙ more_stages p b r e)
 
@@ -597,7 +593,7 @@ mutual
   list_rest b (g.list_separator {d} {s' = s'} {is = is} {a = a} sep) e = separator is a b sep ∙ begin-list _ b d s' e
   list_rest b (g.joins {d} {s} {t} {is = is} {a = a} {ts = ts} j n p r) e =
       join-ends is a j b d s ts ∙ (newlines (gap.Join is a j) b n refl ∙ (join-pipeline is a j b d t (OnePipeline-begins p) ∙
-          (one_pipeline is (Some (a, j)) b p (ListRest-stops r e) ∙ list_rest b r e)))
+      (one_pipeline is (Some (a, j)) b p (ListRest-stops r e) ∙ list_rest b r e)))
   list_rest b (g.next_more {d} {t = t} {is = is} {a = a} sep p r) e =
       separator is a b sep ∙ (begin-pipeline _ b d t (OnePipeline-begins p) ∙ (one_pipeline _ None b p (ListRest-stops r e) ∙ list_rest b r e))
 

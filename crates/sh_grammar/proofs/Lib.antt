@@ -1,4 +1,5 @@
 pub mod Complete
+pub mod Examples
 pub mod Reading
 pub mod Sound
 pub mod Tests

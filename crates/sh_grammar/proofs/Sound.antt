@@ -46,7 +46,7 @@ use Rattle.std.proofs.Common.{◌≡◌, Bool, true, false, cond, ℕ, zero, suc
 use Rattle.sh_lexer.specs.declared.token.Bit.TheVariants as bit
 use Rattle.sh_lexer.specs.declared.token.Opener.TheVariants as opener
 use Rattle.sh_grammar.specs.declared.state.Now.{Now}
-use Rattle.sh_grammar.specs.Draft.{next_list, begin_list, end_list, next_leaf, begin_leaf, end_leaf, next_body, begin_body, end_body, next_here, begin_here, end_here, none_due, cut_mode, redir, here_redir, and_or, joined, filled, no_draft}
+use Rattle.sh_grammar.specs.Draft.{next_list, begin_list, end_list, next_leaf, begin_leaf, end_leaf, next_body, begin_body, end_body, next_here, begin_here, end_here, none_due, cut_mode, redir, here_redir, filled, no_draft}
 use Rattle.sh_grammar.specs.Grammar.{Parses, with_assign, with_word, with_redir, max_nesting}
 use Rattle.sh_grammar.specs.Machine.{State, at, if_any, when, gap_mode, next_due, host_mode, list_ended, this_and_or, command_ended, pipe, end_with, end_command, accept_now, step_now, run, start, start_within, opened, case, with_arm}
 use Rattle.sh_grammar.proofs.Tests.{same_mode-is, is_op-is, is_end-is}
@@ -354,7 +354,7 @@ parts_end-says ps (below.Arith qs n) b d s t ts all h =
 parts_end-says ps (below.Body n hs k) b d s t ts all h =
     let q = when-says (is_end end.Text (cut_mode (gap_mode k) hs) t) _ ts all h in
     at-end (λ x. PartsEnd ps (below.Body n hs k ∷ b) d s (x ∷ ts) all) end.Text (cut_mode (gap_mode k) hs) t q.0
-        (end_here_body (due-of hs k b d (end_here n (part.Double ps) s) ts all q.1))
+    (end_here_body (due-of hs k b d (end_here n (part.Double ps) s) ts all q.1))
 parts_end-says ps f b d s t ts all h = absurd h
 
 parts_ended-says : (ps : List Part) (b : List Below) (d : ℕ) (s : Draft) (t : Token) (ts : List Token) (all : Script) →
@@ -921,7 +921,7 @@ due-says : (h : Due) (hs : List Due) (k : Gap) (b : List Below) (d : ℕ) (s : D
 due-says h hs k b d s (token.Verbatim x n) ts all e =
     let q = when-says (same_mode (cut_mode (gap_mode k) hs) n) _ ts all e in
     subst (λ y. DueGo (h ∷ hs) k b d s (token.Verbatim x y ∷ ts) all) (same_mode-is _ n q.0)
-        (quoted-goes (due-of hs k b d (end_here h.number (part.Single x) s) ts all q.1))
+    (quoted-goes (due-of hs k b d (end_here h.number (part.Single x) s) ts all q.1))
 due-says h hs k b d s token.Body ts all e = expanded-goes e
 due-says h hs k b d s t ts all e = absurd e
 

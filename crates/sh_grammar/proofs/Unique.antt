@@ -3,7 +3,6 @@ use Rattle.std.proofs.Common.{◌≡◌, ℕ, List, Some, sym, ◌∙◌}
 use Rattle.sh_syntax.specs.declared.tree.Script.{Script}
 use Rattle.sh_lexer.specs.declared.token.Token.{Token}
 use Rattle.sh_grammar.specs.Grammar.{ParsesWithin}
-use Rattle.sh_grammar.specs.Machine.{run, start_within}
 use Rattle.sh_grammar.proofs.Complete.{complete}
 
 injected : (s u : Script) → Some s ≡ Some u → s ≡ u

@@ -13,7 +13,6 @@ use Rattle.sh_syntax.specs.declared.tree.Join.{Join}
 use Rattle.sh_syntax.specs.declared.tree.Pipeline.{Pipeline}
 use Rattle.sh_syntax.specs.declared.tree.Script.{Script}
 use Rattle.sh_syntax.specs.Trees.{word}
-use Rattle.sh_lexer.specs.declared.token.Here.{Here}
 use Rattle.sh_lexer.specs.declared.token.Mode.{Mode}
 use Rattle.sh_lexer.specs.declared.token.Mode.TheVariants as mode
 use Rattle.sh_grammar.specs.declared.state.Due.{Due}

@@ -240,11 +240,11 @@ mutual
         is_name x ≡ true → Newlines mode.Command d s ts (Operator op.In ∷ mid) t → ForWords d t [] mid mid' ws u →
         Separator d u mid' (Operator op.Do ∷ mid'') v → InList d (begin_list v) mid'' (Operator op.Done ∷ rest) is s' →
         OneCompound (suc d) s (Operator op.For ∷ token.Part (bit.Piece x) ∷ End end.Word mode.Command ∷ ts) rest
-            (compound.For x (Some ws) (next_list v)) (end_list (next_list v) is s')
+        (compound.For x (Some ws) (next_list v)) (end_list (next_list v) is s')
     for_parameters : {d : ℕ} {s t s' : Draft} {x : List ℕ} {is : List AndOr} {ts mid rest : List Token} →
         is_name x ≡ true → MaySeparate d s ts (Operator op.Do ∷ mid) t → InList d (begin_list t) mid (Operator op.Done ∷ rest) is s' →
         OneCompound (suc d) s (Operator op.For ∷ token.Part (bit.Piece x) ∷ End end.Word mode.Command ∷ ts) rest
-            (compound.For x None (next_list t)) (end_list (next_list t) is s')
+        (compound.For x None (next_list t)) (end_list (next_list t) is s')
     case_command : {d : ℕ} {s t u s' : Draft} {ps : List Part} {arms : List (List Word × ℕ)} {ts mid mid' rest : List Token} →
         Parts d s [] ts (End end.Word mode.Command ∷ mid) ps t → NotEmpty ps → Newlines mode.Command d t mid (Operator op.CaseIn ∷ mid') u →
         Arms d u [] mid' rest arms s' → OneCompound (suc d) s (Operator op.Case ∷ ts) rest (compound.Case (word ps) arms) s'
@@ -258,7 +258,7 @@ mutual
     function : {d : ℕ} {s t u s' : Draft} {name : List ℕ} {x : Compound} {rs : List Redir} {ts mid mid' rest : List Token} →
         Newlines mode.Command d s ts mid t → OneCompound d (begin_body t) mid mid' x u → Redirs d u [] mid' rest rs s' →
         OneCommand d s (token.Function name ∷ Operator op.Open ∷ Operator op.Close ∷ ts) rest
-            (command.Function name (next_body t)) (end_body (next_body t) (command.Compound x rs) s')
+        (command.Function name (next_body t)) (end_body (next_body t) (command.Compound x rs) s')
 
   -- commands joined by `|`, after those before
   pub data Stages : ℕ → Draft → List Command → List Token → List Token → List Command → Draft → Type 0 where

@@ -4,7 +4,6 @@ use Rattle.sh_syntax.specs.declared.tree.Part.{Part}
 use Rattle.sh_syntax.specs.declared.tree.Part.TheVariants as part
 use Rattle.sh_syntax.specs.declared.tree.Word.{Word}
 use Rattle.sh_syntax.specs.declared.tree.Redir.{Redir}
-use Rattle.sh_syntax.specs.declared.tree.RedirOp.{RedirOp}
 use Rattle.sh_syntax.specs.declared.tree.Command.{Command}
 use Rattle.sh_syntax.specs.declared.tree.Command.TheVariants as command
 use Rattle.sh_syntax.specs.declared.tree.Compound.{Compound}

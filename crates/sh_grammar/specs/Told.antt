@@ -9,7 +9,6 @@ use Rattle.sh_lexer.specs.declared.token.End.TheVariants as end
 use Rattle.sh_lexer.specs.declared.token.Mode.{Mode}
 use Rattle.sh_lexer.specs.declared.token.Mode.TheVariants as mode
 use Rattle.sh_grammar.specs.declared.state.Due.{Due}
-use Rattle.sh_grammar.specs.declared.state.Gap.{Gap}
 use Rattle.sh_grammar.specs.declared.state.Gap.TheVariants as gap
 use Rattle.sh_grammar.specs.declared.state.Now.{Now}
 use Rattle.sh_grammar.specs.declared.state.Now.TheVariants as now

@@ -2,9 +2,7 @@
 
 use hs_world::Text;
 use sh_lexer::{Here, Mode};
-use sh_syntax::{
-    AndOr, Command, Compound, Join, ParamOp, Part, Redir, RedirOp, Script, Word,
-};
+use sh_syntax::{AndOr, Command, Compound, Join, ParamOp, Part, Redir, RedirOp, Script, Word};
 use sqlite_items::Items;
 
 /// A here-document whose body comes later: the number of its body.
