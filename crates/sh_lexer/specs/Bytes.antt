@@ -1,5 +1,7 @@
 -- Classes of bytes, and runs of them.
-use Rattle.std.specs.Prelude.{ℕ, Bool, true, false, not, ◌&&◌, ◌||◌, ◌==◌, ◌+◌, ◌*◌, ◌-◌, nat_le, List, [], ◌∷◌, Option, Some, None}
+use Rattle.std.specs.Prelude.{ℕ, Bool, true, false, not, ◌&&◌, ◌||◌, ◌==◌, ◌+◌, ◌*◌, ◌-◌, nat_le, List, [], ◌∷◌, ◌++◌, Option, Some, None}
+use Rattle.sh_lexer.specs.declared.bytes.Class.{Class}
+use Rattle.sh_lexer.specs.declared.bytes.Class.TheVariants as class
 
 abbrev pub between : ℕ → ℕ → ℕ → Bool
 between low high b = nat_le low b && nat_le b high
@@ -106,3 +108,22 @@ has_nul (b ∷ r) = b == 0 || has_nul r
 unfoldable pub number : ℕ → List ℕ → ℕ
 number n [] = n
 number n (b ∷ r) = number (n * 10 + (b - 48)) r
+
+-- ---- which bytes a piece is made of
+
+abbrev pub stands : Class → ℕ → Bool
+stands class.Digit b = is_digit b
+stands class.Name b = in_name b
+stands class.Plain b = plain b
+stands class.Quoted b = quoted_plain b
+stands class.Braces b = braces_plain b
+stands class.QuotedBraces b = quoted_braces_plain b
+stands class.Body b = body_plain b
+
+-- bytes that were read before
+abbrev pub with_front : List ℕ → List ℕ × List ℕ → List ℕ × List ℕ
+with_front front p = (front ++ p.0, p.1)
+
+abbrev pub map_front : List ℕ → Option (List ℕ × List ℕ) → Option (List ℕ × List ℕ)
+map_front front None = None
+map_front front (Some p) = Some (with_front front p)
