@@ -2,6 +2,8 @@
 #![tactic(auto)]
 
 mod bytes;
+mod cut;
+mod lex;
 mod read;
 mod token;
 
