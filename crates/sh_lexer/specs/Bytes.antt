@@ -38,7 +38,7 @@ ends_word [] = true
 ends_word (b ∷ r) = delimits b
 
 -- NUL, `$`, backquote and backslash stand for themselves nowhere but in single quotes
-abbrev pub special : ℕ → Bool
+unfoldable pub special : ℕ → Bool
 special b = b == 0 || b == 36 || b == 92 || b == 96
 
 -- a byte that stands for itself in a word
@@ -111,7 +111,7 @@ number n (b ∷ r) = number (n * 10 + (b - 48)) r
 
 -- ---- which bytes a piece is made of
 
-abbrev pub stands : Class → ℕ → Bool
+unfoldable pub stands : Class → ℕ → Bool
 stands class.Digit b = is_digit b
 stands class.Name b = in_name b
 stands class.Plain b = plain b

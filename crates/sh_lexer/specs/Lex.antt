@@ -200,6 +200,11 @@ special_at m backslash b r =
     if b == 96 then backquote m (backquoted r) else (
     if b == 92 then backslash r else bad Nul))
 
+-- plain bytes, where the first byte begins a piece of them
+unfoldable pub text_if : (ℕ → Bool) → List ℕ → Lexed
+text_if p [] = bad Unexpected
+text_if p (b ∷ r) = if p b then quoted_text (piece p (b ∷ r)) else bad Unexpected
+
 -- a part of a word, where quotes quote
 unfoldable pub bit_at : Mode → (ℕ → Bool) → List ℕ → Lexed
 bit_at m p [] = bad Unexpected
@@ -207,7 +212,7 @@ bit_at m p (b ∷ r) =
     if special b then special_at m escaped b r else (
     if b == 39 then single_text (single r) else (
     if b == 34 then got (token.Open opener.Double m) r else (
-    if p b then quoted_text (piece p (b ∷ r)) else bad Unexpected)))
+    text_if p (b ∷ r))))
 
 unfoldable pub in_word : List ℕ → Lexed
 in_word t = if ends_word t then ends end.Word t else bit_at mode.Word plain t

@@ -4,3 +4,4 @@ pub mod Gives
 pub mod Lex
 pub mod Lexes
 pub mod Modes
+pub mod Quoting

@@ -26,6 +26,7 @@ pub enum Class {
 }
 
 /// What stands for itself in single quotes alone.
+#[tactic(auto, unfolding(crate::specs::Bytes::special))]
 pub fn special(b: u8) -> bool
     ensures { result ≡ spec.special b }
 {
@@ -60,6 +61,7 @@ fn plain(b: u8) -> bool
 }
 
 /// Whether the byte is of the class.
+#[tactic(auto, unfolding(crate::specs::Bytes::stands))]
 pub fn stands(class: Class, b: u8) -> bool
     ensures { result ≡ spec.stands class b }
 {

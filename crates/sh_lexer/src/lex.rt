@@ -1,10 +1,12 @@
 //! One token from the front of a text (POSIX.1-2017, XCU 2.2 and 2.3).
 
-ghost use Rattle.std.specs.Prelude.{◌≡◌, ◌≤◌, [], ◌∷◌};
+ghost use Rattle.std.specs.Prelude.{◌≡◌, true, false};
 ghost use Rattle.sh_lexer.specs.Bytes as bytes;
 ghost use Rattle.sh_lexer.specs.Cut as cut;
 ghost use Rattle.sh_lexer.specs.Lex as spec;
+ghost use Rattle.sh_lexer.specs.declared.token.Mode.TheVariants as mode;
 ghost use Rattle.sh_lexer.specs.Gives.{Gives};
+ghost use Rattle.sh_lexer.specs.Quoting.{escapes, backslash};
 
 use crate::bytes::{Class, begins_name, ends_word, has_nul, peel, piece, single, skip, special, stands};
 use crate::cut::backquoted;
@@ -13,6 +15,17 @@ use crate::token::{Bit, End, Mode, Op, Opener, Token};
 use hs_world::Text;
 use sh_syntax::{Fault, Opening, ParamOp, RedirOp};
 use std::alloc::Global;
+
+/// Which bytes a backslash quotes.
+#[derive(Clone, Copy, Debug, PartialEq, Eq)]
+enum Quoting {
+    All,
+    /// In a here-document and in an arithmetic expression.
+    Body,
+    Quotes,
+    /// In the word of `${x-` in double quotes.
+    Braces,
+}
 
 /// An end, for which the grammar says how to go on.
 fn ends(end: End, rest: &[u8]) -> Result<Read<'_>, LexError>
@@ -173,6 +186,7 @@ fn zero_alone(digits: &[u8]) -> bool
     matches!(digits, [_])
 }
 
+#[tactic(auto, unfolding(crate::specs::Bytes::stands))]
 fn length_name(alloc: Global, text: &[u8]) -> Result<Read<'_>, LexError>
     ensures { Gives result (spec.length_name (bytes.piece bytes.in_name text.now)) }
 {
@@ -180,6 +194,7 @@ fn length_name(alloc: Global, text: &[u8]) -> Result<Read<'_>, LexError>
     length_end(name, rest)
 }
 
+#[tactic(auto, unfolding(crate::specs::Bytes::stands))]
 fn length_digits(alloc: Global, text: &[u8]) -> Result<Read<'_>, LexError>
     ensures { Gives result (spec.length_digits (bytes.piece bytes.is_digit text.now)) }
 {
@@ -210,6 +225,7 @@ fn special_parameter(b: u8) -> bool
     matches!(b, b'@' | b'*' | b'?')
 }
 
+#[tactic(auto, unfolding(crate::specs::Bytes::stands))]
 fn name_param(alloc: Global, mode: Mode, text: &[u8]) -> Result<Read<'_>, LexError>
     ensures { Gives result (spec.name_param mode (bytes.piece bytes.in_name text.now)) }
 {
@@ -217,6 +233,7 @@ fn name_param(alloc: Global, mode: Mode, text: &[u8]) -> Result<Read<'_>, LexErr
     param_op(mode, name, rest)
 }
 
+#[tactic(auto, unfolding(crate::specs::Bytes::stands))]
 fn digits_param(alloc: Global, mode: Mode, text: &[u8]) -> Result<Read<'_>, LexError>
     ensures { Gives result (spec.digits_param mode (bytes.piece bytes.is_digit text.now)) }
 {
@@ -255,6 +272,7 @@ fn parenthesis(mode: Mode, text: &[u8]) -> Result<Read<'_>, LexError>
     }
 }
 
+#[tactic(auto, unfolding(crate::specs::Bytes::stands))]
 fn value(alloc: Global, text: &[u8]) -> Result<Read<'_>, LexError>
     ensures { Gives result (spec.value (bytes.piece bytes.in_name text.now)) }
 {
@@ -277,5 +295,275 @@ fn dollar(alloc: Global, mode: Mode, text: &[u8]) -> Result<Read<'_>, LexError>
         }
         [b'$' | b'!' | b'-', ..] => Err(LexError::Bad(Fault::BadParameter)),
         _ => alone(alloc, b'$', text),
+    }
+}
+
+fn escapes(quoting: Quoting, b: u8) -> bool
+    ensures { result ≡ escapes quoting b }
+{
+    match quoting {
+        Quoting::All => true,
+        Quoting::Body => matches!(b, b'$' | b'\\' | b'`'),
+        Quoting::Quotes => matches!(b, b'$' | b'\\' | b'`' | b'"'),
+        Quoting::Braces => matches!(b, b'$' | b'\\' | b'`' | b'"' | b'}'),
+    }
+}
+
+/// After a backslash that quotes each byte.
+fn escaped(alloc: Global, text: &[u8]) -> Result<Read<'_>, LexError>
+    ensures { Gives result (spec.escaped text.now) }
+{
+    match text {
+        [] => alone(alloc, b'\\', text),
+        [0, ..] => Err(LexError::Bad(Fault::Nul)),
+        [b, rest @ ..] => Ok(Read::Token(Token::Part(Bit::Escaped(*b)), rest)),
+    }
+}
+
+/// After a backslash that quotes some bytes.
+fn escaped_if(alloc: Global, quoting: Quoting, text: &[u8]) -> Result<Read<'_>, LexError>
+    ensures { Gives result (spec.escaped_if (escapes quoting) text.now) }
+{
+    match text {
+        [b, rest @ ..] if escapes(quoting, *b) => {
+            Ok(Read::Token(Token::Part(Bit::Escaped(*b)), rest))
+        }
+        _ => alone(alloc, b'\\', text),
+    }
+}
+
+fn backslash(alloc: Global, quoting: Quoting, text: &[u8]) -> Result<Read<'_>, LexError>
+    ensures { Gives result (backslash quoting text.now) }
+{
+    match quoting {
+        Quoting::All => escaped(alloc, text),
+        Quoting::Body | Quoting::Quotes | Quoting::Braces => escaped_if(alloc, quoting, text),
+    }
+}
+
+fn backquote(alloc: Global, mode: Mode, text: &[u8]) -> Result<Read<'_>, LexError>
+    ensures { Gives result (spec.backquote mode (cut.backquoted text.now)) }
+{
+    let (inside, rest) = backquoted(alloc, text)?;
+    Ok(Read::Cut(Token::Open(Opener::Backquote, mode), inside, rest))
+}
+
+/// A byte that stands for itself in single quotes alone, and the text after it.
+#[tactic(auto, unfolding(crate::specs::Lex::special_at))]
+fn special_at(
+    alloc: Global,
+    mode: Mode,
+    quoting: Quoting,
+    b: u8,
+    rest: &[u8],
+) -> Result<Read<'_>, LexError>
+    ensures { Gives result (spec.special_at mode (backslash quoting) b rest.now) }
+{
+    match b {
+        b'$' => dollar(alloc, mode, peel(rest)),
+        b'`' => backquote(alloc, mode, rest),
+        b'\\' => backslash(alloc, quoting, rest),
+        _ => Err(LexError::Bad(Fault::Nul)),
+    }
+}
+
+fn word_special(alloc: Global, mode: Mode, b: u8, rest: &[u8]) -> Result<Read<'_>, LexError>
+    ensures { Gives result (spec.special_at mode spec.escaped b rest.now) }
+{
+    special_at(alloc, mode, Quoting::All, b, rest)
+}
+
+fn quotes_special(alloc: Global, b: u8, rest: &[u8]) -> Result<Read<'_>, LexError>
+    ensures { Gives result (spec.special_at mode.Quotes (spec.escaped_if spec.quotes_escapable) b rest.now) }
+{
+    special_at(alloc, Mode::Quotes, Quoting::Quotes, b, rest)
+}
+
+fn braces_special(alloc: Global, b: u8, rest: &[u8]) -> Result<Read<'_>, LexError>
+    ensures { Gives result (spec.special_at (mode.Braces true) (spec.escaped_if spec.braces_escapable) b rest.now) }
+{
+    special_at(alloc, Mode::Braces(true), Quoting::Braces, b, rest)
+}
+
+fn body_special(alloc: Global, b: u8, rest: &[u8]) -> Result<Read<'_>, LexError>
+    ensures { Gives result (spec.special_at mode.Body (spec.escaped_if spec.escapable) b rest.now) }
+{
+    special_at(alloc, Mode::Body, Quoting::Body, b, rest)
+}
+
+#[tactic(auto, unfolding(crate::specs::Bytes::stands))]
+fn quotes_text(alloc: Global, text: &[u8]) -> Result<Read<'_>, LexError>
+    ensures { Gives result (spec.quoted_text (bytes.piece bytes.quoted_plain text.now)) }
+{
+    quoted_text(alloc, Class::Quoted, text)
+}
+
+#[tactic(auto, unfolding(crate::specs::Bytes::stands))]
+fn braces_text(alloc: Global, text: &[u8]) -> Result<Read<'_>, LexError>
+    ensures { Gives result (spec.quoted_text (bytes.piece bytes.quoted_braces_plain text.now)) }
+{
+    quoted_text(alloc, Class::QuotedBraces, text)
+}
+
+#[tactic(auto, unfolding(crate::specs::Bytes::stands))]
+fn body_text(alloc: Global, text: &[u8]) -> Result<Read<'_>, LexError>
+    ensures { Gives result (spec.quoted_text (bytes.piece bytes.body_plain text.now)) }
+{
+    quoted_text(alloc, Class::Body, text)
+}
+
+/// After a single quote.
+fn single_text(alloc: Global, text: &[u8]) -> Result<Read<'_>, LexError>
+    ensures { Gives result (spec.single_text (bytes.single text.now)) }
+{
+    let Some((inside, rest)) = single(alloc, text)? else {
+        return Err(LexError::Bad(Fault::Unclosed(Opening::Single)));
+    };
+    if has_nul(inside.as_slice()) {
+        return Err(LexError::Bad(Fault::Nul));
+    }
+    Ok(Read::Token(Token::Part(Bit::Single(inside)), rest))
+}
+
+/// The longest run of bytes of the class, where there is one.
+#[tactic(auto, unfolding(crate::specs::Lex::text_if))]
+fn text_if(alloc: Global, class: Class, text: &[u8]) -> Result<Read<'_>, LexError>
+    ensures { Gives result (spec.text_if (bytes.stands class) text.now) }
+{
+    match text {
+        [b, ..] if stands(class, *b) => quoted_text(alloc, class, text),
+        _ => Err(LexError::Bad(Fault::Unexpected)),
+    }
+}
+
+/// A part of a word, where quotes quote. Other bytes are of the class.
+#[tactic(auto, unfolding(crate::specs::Lex::bit_at))]
+fn bit_at(alloc: Global, mode: Mode, class: Class, text: &[u8]) -> Result<Read<'_>, LexError>
+    ensures { Gives result (spec.bit_at mode (bytes.stands class) text.now) }
+{
+    match text {
+        [b, rest @ ..] if special(*b) => word_special(alloc, mode, *b, rest),
+        [b'\'', rest @ ..] => single_text(alloc, rest),
+        [b'"', rest @ ..] => Ok(Read::Token(Token::Open(Opener::Double, mode), rest)),
+        [] => Err(LexError::Bad(Fault::Unexpected)),
+        [_, ..] => text_if(alloc, class, text),
+    }
+}
+
+#[tactic(auto, unfolding(crate::specs::Bytes::stands))]
+fn word_bit(alloc: Global, text: &[u8]) -> Result<Read<'_>, LexError>
+    ensures { Gives result (spec.bit_at mode.Word bytes.plain text.now) }
+{
+    bit_at(alloc, Mode::Word, Class::Plain, text)
+}
+
+#[tactic(auto, unfolding(crate::specs::Bytes::stands))]
+fn braces_bit(alloc: Global, text: &[u8]) -> Result<Read<'_>, LexError>
+    ensures { Gives result (spec.bit_at (mode.Braces false) bytes.braces_plain text.now) }
+{
+    bit_at(alloc, Mode::Braces(false), Class::Braces, text)
+}
+
+#[tactic(auto, unfolding(crate::specs::Lex::in_word))]
+fn in_word(alloc: Global, text: &[u8]) -> Result<Read<'_>, LexError>
+    ensures { Gives result (spec.in_word text.now) }
+{
+    if ends_word(text) {
+        return ends(End::Word, text);
+    }
+    word_bit(alloc, text)
+}
+
+#[tactic(auto, unfolding(crate::specs::Lex::in_quotes))]
+fn in_quotes(alloc: Global, text: &[u8]) -> Result<Read<'_>, LexError>
+    ensures { Gives result (spec.in_quotes text.now) }
+{
+    match text {
+        [] => Err(LexError::End),
+        [b, rest @ ..] if special(*b) => quotes_special(alloc, *b, rest),
+        [b'"', rest @ ..] => ends(End::Quote, rest),
+        _ => quotes_text(alloc, text),
+    }
+}
+
+/// The word of `${x-`.
+#[tactic(auto, unfolding(crate::specs::Lex::in_plain_braces))]
+fn in_plain_braces(alloc: Global, text: &[u8]) -> Result<Read<'_>, LexError>
+    ensures { Gives result (spec.in_plain_braces text.now) }
+{
+    match text {
+        [] => Err(LexError::End),
+        [b'}', rest @ ..] => ends(End::Brace, rest),
+        _ => braces_bit(alloc, text),
+    }
+}
+
+/// The same, in double quotes.
+#[tactic(auto, unfolding(crate::specs::Lex::in_quoted_braces))]
+fn in_quoted_braces(alloc: Global, text: &[u8]) -> Result<Read<'_>, LexError>
+    ensures { Gives result (spec.in_quoted_braces text.now) }
+{
+    match text {
+        [] => Err(LexError::End),
+        [b, rest @ ..] if special(*b) => braces_special(alloc, *b, rest),
+        [b'}', rest @ ..] => ends(End::Brace, rest),
+        [b'"', rest @ ..] => {
+            let opener = Token::Open(Opener::Double, Mode::Braces(true));
+            Ok(Read::Token(opener, rest))
+        }
+        _ => braces_text(alloc, text),
+    }
+}
+
+#[tactic(auto, unfolding(crate::specs::Lex::in_body))]
+fn in_body(alloc: Global, text: &[u8]) -> Result<Read<'_>, LexError>
+    ensures { Gives result (spec.in_body text.now) }
+{
+    match text {
+        [] => Err(LexError::End),
+        [b, rest @ ..] if special(*b) => body_special(alloc, *b, rest),
+        _ => body_text(alloc, text),
+    }
+}
+
+fn redirect(fd: u8, op: RedirOp, rest: &[u8]) -> Result<Read<'_>, LexError>
+    ensures { Gives result (spec.redirect fd op rest.now) }
+{
+    Ok(Read::Token(Token::Redirect(fd, op), rest))
+}
+
+/// After `<<`.
+fn here(fd: u8, text: &[u8]) -> Result<Read<'_>, LexError>
+    ensures { Gives result (spec.here fd text.now) }
+{
+    match text {
+        [b'-', rest @ ..] => Ok(Read::Token(Token::Here(fd, true), rest)),
+        _ => Ok(Read::Token(Token::Here(fd, false), text)),
+    }
+}
+
+/// After `<`.
+#[tactic(auto, unfolding(crate::specs::Lex::less))]
+fn less(fd: u8, text: &[u8]) -> Result<Read<'_>, LexError>
+    ensures { Gives result (spec.less fd text.now) }
+{
+    match text {
+        [b'<', rest @ ..] => here(fd, peel(rest)),
+        [b'&', rest @ ..] => redirect(fd, RedirOp::DupIn, rest),
+        [b'>', ..] => Err(LexError::Bad(Fault::Unexpected)),
+        _ => redirect(fd, RedirOp::Read, text),
+    }
+}
+
+/// After `>`.
+#[tactic(auto, unfolding(crate::specs::Lex::greater))]
+fn greater(fd: u8, text: &[u8]) -> Result<Read<'_>, LexError>
+    ensures { Gives result (spec.greater fd text.now) }
+{
+    match text {
+        [b'>', rest @ ..] => redirect(fd, RedirOp::Append, rest),
+        [b'&', rest @ ..] => redirect(fd, RedirOp::DupOut, rest),
+        [b'|', rest @ ..] => redirect(fd, RedirOp::Clobber, rest),
+        _ => redirect(fd, RedirOp::Write, text),
     }
 }
