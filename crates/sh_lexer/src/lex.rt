@@ -5,6 +5,9 @@ ghost use Rattle.sh_lexer.specs.Bytes as bytes;
 ghost use Rattle.sh_lexer.specs.Cut as cut;
 ghost use Rattle.sh_lexer.specs.Lex as spec;
 ghost use Rattle.sh_lexer.specs.declared.token.Mode.TheVariants as mode;
+ghost use Rattle.sh_lexer.specs.declared.token.Op.TheVariants as op;
+ghost use Rattle.sh_lexer.specs.Lex.{bad};
+ghost use Rattle.sh_syntax.specs.declared.fault.Fault.TheVariants.{Unexpected};
 ghost use Rattle.sh_lexer.specs.Gives.{Gives};
 ghost use Rattle.sh_lexer.specs.Quoting.{escapes, backslash};
 
@@ -566,4 +569,55 @@ fn greater(fd: u8, text: &[u8]) -> Result<Read<'_>, LexError>
         [b'|', rest @ ..] => redirect(fd, RedirOp::Clobber, rest),
         _ => redirect(fd, RedirOp::Write, text),
     }
+}
+
+/// After `;`.
+fn semi(text: &[u8]) -> Result<Read<'_>, LexError>
+    ensures { Gives result (spec.two 59 (spec.operator op.Semi text.now) op.DoubleSemi text.now) }
+{
+    match text {
+        [b';', rest @ ..] => operator(Op::DoubleSemi, rest),
+        _ => operator(Op::Semi, text),
+    }
+}
+
+/// After `&`.
+fn ampersand(text: &[u8]) -> Result<Read<'_>, LexError>
+    ensures { Gives result (spec.two 38 (bad Unexpected) op.AndIf text.now) }
+{
+    match text {
+        [b'&', rest @ ..] => operator(Op::AndIf, rest),
+        _ => Err(LexError::Bad(Fault::Unexpected)),
+    }
+}
+
+/// After `|`.
+fn bar(text: &[u8]) -> Result<Read<'_>, LexError>
+    ensures { Gives result (spec.two 124 (spec.operator op.Pipe text.now) op.OrIf text.now) }
+{
+    match text {
+        [b'|', rest @ ..] => operator(Op::OrIf, rest),
+        _ => operator(Op::Pipe, text),
+    }
+}
+
+fn opens_parenthesis(text: &[u8]) -> bool
+    ensures { result ≡ spec.opens_parenthesis text.now }
+{
+    matches!(text, [b'(', ..])
+}
+
+fn special_builtin(word: &[u8]) -> bool
+    ensures { result ≡ spec.special_builtin word.now }
+{
+    word == b":".as_slice()
+        || word == b"break".as_slice()
+        || word == b"continue".as_slice()
+        || word == b"exit".as_slice()
+        || word == b"export".as_slice()
+        || word == b"readonly".as_slice()
+        || word == b"return".as_slice()
+        || word == b"set".as_slice()
+        || word == b"shift".as_slice()
+        || word == b"unset".as_slice()
 }
