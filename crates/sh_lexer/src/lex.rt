@@ -11,7 +11,9 @@ ghost use Rattle.sh_syntax.specs.declared.fault.Fault.TheVariants.{Unexpected};
 ghost use Rattle.sh_lexer.specs.Gives.{Gives};
 ghost use Rattle.sh_lexer.specs.Quoting.{escapes, backslash};
 
-use crate::bytes::{Class, begins_name, ends_word, has_nul, peel, piece, single, skip, special, stands};
+use crate::bytes::{
+    Class, begins_name, ends_word, has_nul, peel, piece, single, skip, special, stands,
+};
 use crate::cut::backquoted;
 use crate::read::{LexError, Read};
 use crate::token::{Bit, End, Mode, Op, Opener, Token};
@@ -154,8 +156,22 @@ fn param_op(mode: Mode, name: Text, text: &[u8]) -> Result<Read<'_>, LexError>
         [b'=', rest @ ..] => braces(mode, name, ParamOp::Assign, false, quoted, rest),
         [b'?', rest @ ..] => braces(mode, name, ParamOp::Error, false, quoted, rest),
         [b'+', rest @ ..] => braces(mode, name, ParamOp::Alternative, false, quoted, rest),
-        [b'%', rest @ ..] => doubled(mode, name, b'%', ParamOp::SmallSuffix, ParamOp::LargeSuffix, peel(rest)),
-        [b'#', rest @ ..] => doubled(mode, name, b'#', ParamOp::SmallPrefix, ParamOp::LargePrefix, peel(rest)),
+        [b'%', rest @ ..] => doubled(
+            mode,
+            name,
+            b'%',
+            ParamOp::SmallSuffix,
+            ParamOp::LargeSuffix,
+            peel(rest),
+        ),
+        [b'#', rest @ ..] => doubled(
+            mode,
+            name,
+            b'#',
+            ParamOp::SmallPrefix,
+            ParamOp::LargePrefix,
+            peel(rest),
+        ),
         [0, ..] => Err(LexError::Bad(Fault::Nul)),
         _ => Err(LexError::Bad(Fault::BadParameter)),
     }

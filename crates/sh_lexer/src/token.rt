@@ -2,8 +2,7 @@
 //! bytes may be one of several tokens, as a `)` may end a subshell or a substitution; the grammar takes the one it wants.
 
 use hs_world::Text;
-use sh_syntax::ParamOp;
-use sh_syntax::RedirOp;
+use sh_syntax::{ParamOp, RedirOp};
 
 /// Control operators and reserved words (XCU 2.4, 2.10.2).
 #[derive(Clone, Copy, Debug, PartialEq, Eq, Drop)]

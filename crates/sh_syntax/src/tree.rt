@@ -53,7 +53,10 @@ pub enum Command {
         redirs: Items<Redir>,
     },
     /// A function definition (XCU 2.9.5).
-    Function { name: Text, body: u32 },
+    Function {
+        name: Text,
+        body: u32,
+    },
 }
 
 /// A compound command, whose lists are named by their numbers (XCU 2.9.4).
