@@ -1,0 +1,6 @@
+//! The grammar of scripts over tokens, and the machine that reads it token by token.
+#![tactic(auto)]
+
+mod state;
+
+pub use state::{Below, Case, Draft, Due, Gap, Host, Now, Pipe, Simple};

@@ -1,0 +1,9 @@
+use Rattle.std.proofs.Common.{◌≡◌, length}
+use Rattle.sh_lexer.specs.Bytes as spec
+use Rattle.sh_lexer.proofs.bytes.peel.Given as goal
+
+abbrev pub invariant-loop-left : goal.invariant-loop-left
+invariant-loop-left l = spec.peel l.left ≡ spec.peel l.fn.text
+
+abbrev pub decreases-loop-left : goal.decreases-loop-left
+decreases-loop-left l = length l.left

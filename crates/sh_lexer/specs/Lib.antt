@@ -1,0 +1,7 @@
+pub mod Bytes
+pub mod Cut
+pub mod Gives
+pub mod Lex
+pub mod Lexes
+pub mod Modes
+pub mod Quoting
