@@ -12,5 +12,6 @@ pub mod Progress
 pub mod Rooms
 pub mod Sound
 pub mod Text
+pub mod Told
 pub mod Viable
 pub mod Wraps

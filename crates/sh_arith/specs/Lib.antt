@@ -11,4 +11,5 @@ pub mod Names
 pub mod Number
 pub mod Stack
 pub mod Steps
+pub mod Told
 pub mod Value

@@ -1,71 +1,96 @@
 //! Expressions with their values, by the standard and by C.
 
+ghost use Rattle.std.specs.Prelude.{◌≡◌, None, IfOk};
+ghost use Rattle.std.specs.Fmt.{signed_decimal};
+ghost use Rattle.sh_arith.specs.Told as spec;
+
 use crate::{ArithErr, Assigned, Names, evaluate};
 use hs_world::Text;
 use std::alloc::{AllocError, Global};
 use std::test::Fail;
 
-/// A name and its value.
+/// Names in memory, which tell exactly one table. What was assigned counts before the values at the start, and the newest
+/// first. A look-up is a scan.
 #[derive(Drop)]
-struct Entry {
-    name: Text,
-    value: Text,
-    read_only: bool,
-}
-
-/// Names in memory. They tell no table: what they hold is seen by the tests alone.
-#[derive(Drop)]
-struct Held {
+struct Told {
     alloc: Global,
-    entries: Vec<Entry>,
+    values: Vec<(Text, Text)>,
+    read_only: Vec<Text>,
+    made: Vec<(Text, i64)>,
 }
 
-impl Names for Held {
+impl Names for Told {
     type Halt = AllocError;
 
-    ghost agrees = { λ _ _. ⊥ };
+    ghost agrees = { λ s w. w ≡ spec.table_of s.values.items s.read_only.items s.made.items };
 
     ghost get_halts = { λ _ _ _. Unit {0} };
 
     ghost unmade_halts = { λ _ _ _ _ _. Unit {0} };
 
-    ghost made_halts = { λ _ _ _ _ _. Unit {0} };
+    ghost made_halts = { λ _ _ _ _ _. ⊥ };
 
     fn get(&mut self, name: &[u8]) -> Result<Option<Text>, AllocError> {
-        for entry in &self.entries {
-            if entry.name.as_slice() == name {
-                return Ok(Some(entry.value.clone()?));
+        match newest(&self.made, name) {
+            Some(number) => {
+                let value = decimal(self.alloc, number)?;
+                Ok(Some(value))
             }
+            None => value_in(&self.values, name),
         }
-        Ok(None)
     }
 
     fn set(&mut self, name: &[u8], value: i64) -> Result<Assigned, AllocError> {
-        let digits = format!(in self.alloc; "{value}")?;
-        let value = Text::from_slice(self.alloc, digits.as_bytes())?;
-        for entry in self.entries.iter_mut() {
-            if entry.name.as_slice() == name {
-                if entry.read_only {
-                    return Ok(Assigned::ReadOnly);
-                }
-                entry.value = value;
-                return Ok(Assigned::Yes);
-            }
+        if listed(&self.read_only, name) {
+            return Ok(Assigned::ReadOnly);
         }
-        add(self, name, value, false)?;
+        let name = Text::from_slice(self.alloc, name)?;
+        self.made.push((name, value))?;
         Ok(Assigned::Yes)
     }
 }
 
-fn add(held: &mut Held, name: &[u8], value: Text, read_only: bool) -> Result<(), AllocError> {
-    let name = Text::from_slice(held.alloc, name)?;
-    let entry = Entry {
-        name,
-        value,
-        read_only,
-    };
-    held.entries.push(entry)?;
-    Ok(())
+/// The number that was assigned to a name last.
+fn newest(made: &[(Text, i64)], name: &[u8]) -> Option<i64>
+    ensures { result ≡ spec.newest None made.now name.now }
+{
+    let mut found = None;
+    for assignment in made {
+        if name == assignment.0.as_slice() {
+            found = Some(assignment.1);
+        }
+    }
+    found
+}
+
+fn value_in(values: &[(Text, Text)], name: &[u8]) -> Result<Option<Text>, AllocError>
+    ensures { IfOk result (λ value. value ≡ spec.value_in values.now name.now) }
+{
+    for entry in values {
+        if entry.0.as_slice() == name {
+            let value = entry.1.clone()?;
+            return Ok(Some(value));
+        }
+    }
+    Ok(None)
+}
+
+fn listed(names: &[Text], name: &[u8]) -> bool
+    ensures { result ≡ spec.listed names.now name.now }
+{
+    for entry in names {
+        if entry.as_slice() == name {
+            return true;
+        }
+    }
+    false
+}
+
+fn decimal(alloc: Global, number: i64) -> Result<Text, AllocError>
+    ensures { IfOk result (λ digits. digits ≡ signed_decimal number) }
+{
+    let digits = format!(in alloc; "{number}")?;
+    Text::from_slice(alloc, digits.as_bytes())
 }
 
 /// What an expression gave.
@@ -78,10 +103,12 @@ enum Gave {
 }
 
 /// Names with values that are numbers, and some that are none. `fixed` is read only.
-fn names(alloc: Global) -> Result<Held, AllocError> {
-    let mut held = Held {
+fn names(alloc: Global) -> Result<Told, AllocError> {
+    let mut told = Told {
         alloc,
-        entries: Vec::new(alloc),
+        values: Vec::new(alloc),
+        read_only: Vec::new(alloc),
+        made: Vec::new(alloc),
     };
     let values = [
         ("a", "5"),
@@ -96,18 +123,25 @@ fn names(alloc: Global) -> Result<Held, AllocError> {
         ("blank", " "),
         ("two", "1 2"),
         ("sum", "1+2"),
+        ("fixed", "7"),
     ];
     for (name, value) in values.iter() {
+        let name = Text::from_slice(alloc, name.as_bytes())?;
         let value = Text::from_slice(alloc, value.as_bytes())?;
-        add(&mut held, name.as_bytes(), value, false)?;
+        told.values.push((name, value))?;
     }
-    add(&mut held, b"fixed", Text::from_slice(alloc, b"7")?, true)?;
-    Ok(held)
+    let fixed = Text::from_slice(alloc, b"fixed")?;
+    told.read_only.push(fixed)?;
+    Ok(told)
 }
 
 fn outcome(alloc: Global, text: &str) -> Result<Gave, AllocError> {
-    let mut held = names(alloc)?;
-    match evaluate(alloc, text.as_bytes(), &mut held) {
+    let mut told = names(alloc)?;
+    outcome_in(alloc, text, &mut told)
+}
+
+fn outcome_in(alloc: Global, text: &str, told: &mut Told) -> Result<Gave, AllocError> {
+    match evaluate(alloc, text.as_bytes(), told) {
         Ok(number) => Ok(Gave::Number(number)),
         Err(ArithErr::Bad { place }) => Ok(Gave::Bad(place)),
         Err(ArithErr::DivideByZero) => Ok(Gave::DivideByZero),
@@ -275,21 +309,47 @@ fn in_brackets(alloc: Global, count: usize) -> Result<Vec<u8>, AllocError> {
 #[test]
 fn a_hundred_brackets_may_be_open(rt: HostRuntime) -> Result<(), Fail> {
     let alloc = rt.alloc();
-    let mut held = names(alloc)?;
+    let mut told = names(alloc)?;
     let most = in_brackets(alloc, 100)?;
-    assert!(rt; evaluate(alloc, &most, &mut held) == Ok(1));
+    assert!(rt; evaluate(alloc, &most, &mut told) == Ok(1));
     let more = in_brackets(alloc, 101)?;
-    assert!(rt; evaluate(alloc, &more, &mut held) == Err(ArithErr::Bad { place: 100 }));
+    assert!(rt; evaluate(alloc, &more, &mut told) == Err(ArithErr::Bad { place: 100 }));
     Ok(())
 }
 
 #[test]
 fn what_was_assigned_before_an_error_stays(rt: HostRuntime) -> Result<(), Fail> {
     let alloc = rt.alloc();
-    let mut held = names(alloc)?;
-    assert!(rt; evaluate(alloc, b"(a=2)+1/0", &mut held) == Err(ArithErr::DivideByZero));
-    assert!(rt; evaluate(alloc, b"a", &mut held) == Ok(2));
-    assert!(rt; evaluate(alloc, b"(a=3)+", &mut held) == Err(ArithErr::Bad { place: 6 }));
-    assert!(rt; evaluate(alloc, b"a", &mut held) == Ok(2));
+    let mut told = names(alloc)?;
+    assert!(rt; evaluate(alloc, b"(a=2)+1/0", &mut told) == Err(ArithErr::DivideByZero));
+    assert!(rt; evaluate(alloc, b"a", &mut told) == Ok(2));
+    assert!(rt; evaluate(alloc, b"(a=3)+", &mut told) == Err(ArithErr::Bad { place: 6 }));
+    assert!(rt; evaluate(alloc, b"a", &mut told) == Ok(2));
+    Ok(())
+}
+
+#[test]
+fn names_hold_what_was_assigned(rt: HostRuntime) -> Result<(), Fail> {
+    let alloc = rt.alloc();
+    let table = [
+        ("a=b=3", Gave::Number(3)),
+        ("a*10+b", Gave::Number(33)),
+        ("a=(b=a+1)*2", Gave::Number(8)),
+        ("a*10+b", Gave::Number(84)),
+        ("fixed=1", Gave::Bad(0)),
+        ("fixed+a", Gave::Number(15)),
+        ("unset+=-2", Gave::Number(-2)),
+        ("unset", Gave::Number(-2)),
+    ];
+    let mut told = names(alloc)?;
+    for (text, expected) in table.iter() {
+        assert!(rt; outcome_in(alloc, text, &mut told)? == *expected);
+    }
+    assert!(rt; told.get(b"a")? == Some(Text::from_slice(alloc, b"8")?));
+    assert!(rt; told.get(b"fixed")? == Some(Text::from_slice(alloc, b"7")?));
+    assert!(rt; told.get(b"none")? == None);
+    assert!(rt; told.set(b"fixed", 1) == Ok(Assigned::ReadOnly));
+    assert!(rt; told.set(b"b", 2) == Ok(Assigned::Yes));
+    assert!(rt; evaluate(alloc, b"b", &mut told) == Ok(2));
     Ok(())
 }
