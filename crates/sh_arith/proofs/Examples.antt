@@ -1,6 +1,7 @@
 -- Constants, expressions and their values.
-use Rattle.std.proofs.Common.{◌≡◌, ℕ, false, pos, negsuc, List, [], ◌∷◌, Some, None, refl}
+use Rattle.std.proofs.Common.{◌≡◌, ℕ, true, false, pos, negsuc, List, [], ◌∷◌, Some, None, refl}
 use Rattle.std.specs.Prelude.{codes}
+use Rattle.std.specs.Fmt.{signed_decimal}
 use Rattle.std.specs.Int.{int_wrap}
 use Rattle.sh_arith.specs.declared.token.Math.TheVariants as math
 use Rattle.sh_arith.specs.declared.token.Logic.TheVariants.{Both}
@@ -12,6 +13,7 @@ use Rattle.sh_arith.specs.Lex.{Lexes}
 use Rattle.sh_arith.specs.Machine.{run, start, emit}
 use Rattle.sh_arith.specs.Names.{Table, to}
 use Rattle.sh_arith.specs.Number.{constant, number_of}
+use Rattle.sh_arith.specs.Told.{table_of}
 use Rattle.sh_arith.specs.Value.{evaluate, value, stopped, fault, by_zero, bad_shift, tried}
 use Rattle.sh_arith.proofs.Sound.{sound}
 
@@ -94,3 +96,17 @@ as_one = refl
 
 made : tried (evaluate tree none) ≡ to (codes "b") (pos 3) ∷ to (codes "a") (pos 3) ∷ []
 made = refl
+
+-- ---- the table that the tests' names tell: "a" is 5 at the start, "r" is 7 and read only, and then "a" is 3, and 4
+
+read_only_told : (table_of ((codes "a", codes "5") ∷ (codes "r", codes "7") ∷ []) (codes "r" ∷ []) []).read_only (codes "r") ≡ true
+read_only_told = refl
+
+first_told : (table_of ((codes "a", codes "5") ∷ (codes "r", codes "7") ∷ []) (codes "r" ∷ []) []).value (codes "a") ≡ Some (codes "5")
+first_told = refl
+
+newest_told : (table_of ((codes "a", codes "5") ∷ []) [] ((codes "a", pos 3) ∷ (codes "a", pos 4) ∷ [])).value (codes "a") ≡ Some (signed_decimal (pos 4))
+newest_told = refl
+
+made_told : (table_of [] [] ((codes "a", pos 3) ∷ (codes "a", pos 4) ∷ [])).made ≡ to (codes "a") (pos 3) ∷ to (codes "a") (pos 4) ∷ []
+made_told = refl
