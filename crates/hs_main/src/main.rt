@@ -12,7 +12,7 @@ mod top;
 
 use gate::NoGate;
 use hs_outside::MemoryHost;
-use hs_world::Text;
+use hs_text::Text;
 use std::alloc::{AllocError, Global};
 use std::io::ErrorKind;
 use std::process::ExitCode;

@@ -4,7 +4,7 @@
 ghost use Rattle.std.specs.Prelude.{◌<◌, ◌≤◌, None, IfSome, length};
 
 use hs_outside::{Failed, Sink, Source};
-use hs_world::Text;
+use hs_text::Text;
 use std::alloc::Global;
 use std::io::{ErrorKind, Read, Write};
 

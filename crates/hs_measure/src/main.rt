@@ -6,7 +6,7 @@
 #![tactic(auto)]
 
 use anyhow::{Context, bail};
-use hs_world::Field;
+use hs_text::Field;
 use sh_pattern::{compile, matches};
 use std::alloc::{AllocError, Global};
 use std::env;

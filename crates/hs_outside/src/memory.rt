@@ -6,7 +6,7 @@ ghost use Rattle.hs_outside.specs.Memory.{after_call, fails};
 ghost use Rattle.hs_outside.specs.Streams.{Gives, appended, ended_by, given, prepended, taken};
 
 use crate::outside::{Failed, Host, Sink, Source};
-use hs_world::Text;
+use hs_text::Text;
 use std::alloc::{AllocError, Global};
 use std::marker::Model;
 

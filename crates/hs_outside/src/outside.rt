@@ -7,7 +7,7 @@ ghost use Rattle.std.specs.Prelude.{◌≡◌, ◌<◌, ◌≤◌, ℕ, Bool, Li
 ghost use Rattle.hs_outside.specs.Causes.{HasCause};
 ghost use Rattle.hs_outside.specs.Streams.{Gives, appended, ended_by, given, prepended, taken};
 
-use hs_world::Text;
+use hs_text::Text;
 use std::alloc::Global;
 use thiserror::Error;
 

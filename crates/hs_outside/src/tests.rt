@@ -1,5 +1,5 @@
 use crate::{Failed, MemorySink, MemorySource, Source, send};
-use hs_world::Text;
+use hs_text::Text;
 use std::test::Fail;
 
 #[test]

@@ -1,6 +1,6 @@
 //! Effects: what a command does to the state of the shell.
 
-use crate::text::Text;
+use hs_text::Text;
 
 /// A stream of the program: standard output or standard error (POSIX.1-2017, XBD 3.354 and 3.353).
 #[derive(Clone, Copy, Debug, PartialEq, Eq)]

@@ -2,16 +2,11 @@
 #![tactic(auto)]
 
 mod effect;
-mod field;
 mod list;
-mod short;
-mod text;
 mod world;
 
 pub use effect::{Effect, Fd};
-pub use field::{Field, Fields};
-pub use list::{Effects, TextList};
-pub use text::Text;
+pub use list::Effects;
 pub use world::{Limit, Limits, World, WorldErr};
 
 #[cfg(test)]

@@ -1,49 +1,11 @@
-//! Lists that contracts see as lists. Adding at the end is amortised O(1).
+//! Effects, which contracts see as a list. Adding at the end is amortised O(1).
 
-ghost use Rattle.std.specs.Prelude.{◌≡◌, List, ℕ, [], ◌∷◌, ◌++◌, OnOk, OnErr, length};
+ghost use Rattle.std.specs.Prelude.{◌≡◌, List, [], ◌∷◌, ◌++◌, OnOk, OnErr};
 ghost use Rattle.hs_world.specs.declared.effect.Effect.{Effect};
 
 use crate::effect::Effect;
-use crate::text::Text;
 use std::alloc::{AllocError, Global};
 use std::marker::Model;
-
-/// A list of texts.
-#[derive(Clone, Drop)]
-pub struct TextList {
-    items: Vec<Text>,
-}
-
-impl Model for TextList {
-    ghost Value = { List (List ℕ) };
-
-    ghost view = { λ a. a.items.items };
-}
-
-impl TextList {
-    pub fn new(alloc: Global) -> TextList
-        ensures { result ≡ [] }
-    {
-        TextList {
-            items: Vec::new(alloc),
-        }
-    }
-
-    pub fn as_slice(&self) -> &[Text]
-        ensures { result.now ≡ self.now }
-    {
-        self.items.as_slice()
-    }
-
-    /// Puts a text at the end. Where there is no memory, the list stays.
-    pub fn push(&mut self, text: Text) -> Result<(), AllocError>
-        ensures ok { OnOk result (self.new ≡ self.old ++ text ∷ []) }
-        ensures err { OnErr result (self.new ≡ self.old) }
-    {
-        self.items.push(text)?;
-        Ok(())
-    }
-}
 
 /// Effects in order.
 #[derive(Clone, Drop)]

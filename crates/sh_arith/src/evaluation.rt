@@ -17,7 +17,7 @@ use crate::number::value_of;
 use crate::reading::{ReadErr, read};
 use crate::stack::Stack;
 use crate::token::Math;
-use hs_world::Text;
+use hs_text::Text;
 use std::alloc::Global;
 
 /// The number of a name.

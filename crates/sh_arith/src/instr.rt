@@ -2,7 +2,7 @@
 
 use crate::stack::Stack;
 use crate::token::{Logic, Math, Sign};
-use hs_world::Text;
+use hs_text::Text;
 use sqlite_items::Items;
 
 /// A part of an expression that may be skipped stands between a `Begin` and an `End`.

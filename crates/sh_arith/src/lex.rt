@@ -7,7 +7,7 @@ ghost use Rattle.sh_arith.specs.Lex.{Gives, IsOp};
 
 use crate::number::{blank, decimal, literal, run_len, word_byte};
 use crate::token::{LexError, Logic, Math, Op, Token};
-use hs_world::Text;
+use hs_text::Text;
 use std::alloc::Global;
 
 /// The operator, or its assignment where `=` follows.

@@ -4,7 +4,7 @@ ghost use Rattle.std.specs.Prelude.{◌≡◌, ℕ, ℤ, List, IfOk, ◌⊎◌};
 ghost use Rattle.std.specs.Result.{IfErr};
 ghost use Rattle.sh_arith.specs.Names.{Table, Sets};
 
-use hs_world::Text;
+use hs_text::Text;
 
 /// What became of an assignment.
 #[derive(Clone, Copy, Debug, PartialEq, Eq)]

@@ -4,7 +4,7 @@ ghost use Rattle.std.specs.Prelude.{◌≡◌, ◌≤◌, ◌<◌, ◌^◌, leng
 ghost use Rattle.std.specs.List.{list_all, prefix_len};
 ghost use Rattle.sh_arith.specs.Number as spec;
 
-use hs_world::Text;
+use hs_text::Text;
 
 /// The greatest number of a constant.
 const GREATEST: u64 = 0x7fff_ffff_ffff_ffff;

@@ -9,7 +9,7 @@ ghost use Rattle.sh_arith.specs.Steps.{Steps, Accepts};
 use crate::instr::{Frame, Instr, Now, Part, Rest};
 use crate::stack::Stack;
 use crate::token::{Logic, Math, Op, Sign, Token};
-use hs_world::Text;
+use hs_text::Text;
 use sqlite_items::Items;
 use std::alloc::AllocError;
 

@@ -5,7 +5,7 @@ ghost use Rattle.std.specs.Fmt.{signed_decimal};
 ghost use Rattle.sh_arith.specs.Told as spec;
 
 use crate::{ArithErr, Assigned, Names, evaluate};
-use hs_world::Text;
+use hs_text::Text;
 use std::alloc::{AllocError, Global};
 use std::test::Fail;
 

@@ -1,6 +1,6 @@
 //! The tokens of an arithmetic expression (POSIX.1-2017, XCU 2.6.4; the operators are those of ISO C, 6.5).
 
-use hs_world::Text;
+use hs_text::Text;
 use std::alloc::AllocError;
 
 /// An operator between two numbers that both are needed.

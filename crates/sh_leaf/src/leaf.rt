@@ -5,7 +5,8 @@ ghost use Rattle.hs_world.specs.World.{WorldData};
 ghost use Rattle.sh_leaf.specs.Leaf.{echo_line, effects_of, field, fields, part_bytes, spaced};
 ghost use Rattle.sh_leaf.specs.Do.{Do, Gives, Status};
 
-use hs_world::{Effect, Effects, Fd, Text};
+use hs_text::Text;
+use hs_world::{Effect, Effects, Fd};
 use sh_parser::{Command, Part, Script, Word};
 use std::alloc::{AllocError, Global};
 

@@ -1,5 +1,6 @@
 use crate::echo_effects;
-use hs_world::{Effect, Fd, Text};
+use hs_text::Text;
+use hs_world::{Effect, Fd};
 use sh_parser::parse;
 use std::alloc::{AllocError, Global};
 use std::test::Fail;

@@ -6,7 +6,7 @@ ghost use Rattle.sh_parser.specs.Lex as spec;
 ghost use Rattle.sh_parser.specs.Lexes.{Gives, mode_after};
 
 use crate::token::{Bit, LexError, Mode, Op, Token};
-use hs_world::Text;
+use hs_text::Text;
 use std::alloc::Global;
 
 fn plain(b: u8) -> bool

@@ -8,7 +8,7 @@ ghost use Rattle.sh_parser.specs.Steps.{Steps, HasLeaf};
 use crate::state::Now;
 use crate::token::{Bit, Op, Token};
 use crate::tree::{AndOr, Command, List, Part, Pipeline, Script, Word};
-use hs_world::Text;
+use hs_text::Text;
 use sqlite_items::Items;
 use std::alloc::{AllocError, Global};
 

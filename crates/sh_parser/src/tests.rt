@@ -1,5 +1,5 @@
 use crate::{Command, ParseErr, Part, Script, Word, parse};
-use hs_world::Text;
+use hs_text::Text;
 use std::alloc::{AllocError, Global};
 use std::test::Fail;
 

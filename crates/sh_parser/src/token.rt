@@ -1,6 +1,6 @@
 //! Tokens of a script (POSIX.1-2017, XCU 2.3). In which mode a token is read follows from the token before it.
 
-use hs_world::Text;
+use hs_text::Text;
 use std::alloc::AllocError;
 
 /// What separates commands.

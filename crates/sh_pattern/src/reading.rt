@@ -7,7 +7,7 @@ use crate::bracket::{bracket, closings, plain};
 use crate::class::Symbol;
 use crate::item::Item;
 use crate::pattern::Pattern;
-use hs_world::Field;
+use hs_text::Field;
 use std::alloc::{AllocError, Global};
 
 /// The field with its backslashes read: an unquoted one quotes the next byte, and stands for itself at the end.

@@ -1,7 +1,7 @@
 use crate::{
     Pattern, compile, largest_prefix, largest_suffix, matches, smallest_prefix, smallest_suffix,
 };
-use hs_world::Field;
+use hs_text::Field;
 use std::alloc::{AllocError, Global};
 use std::process::Abort;
 use std::test::Fail;

@@ -2,7 +2,7 @@
 
 ghost use Rattle.std.specs.Prelude.{◌≡◌, [], ◌∷◌, ◌++◌, OnOk, OnErr};
 
-use hs_world::{Text, TextList};
+use hs_text::{Text, TextList};
 use std::alloc::{AllocError, Global};
 use std::marker::Model;
 use thiserror::Error;

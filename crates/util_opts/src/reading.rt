@@ -5,7 +5,7 @@ ghost use Rattle.util_opts.specs.Reading as spec;
 
 use crate::options::{GivenList, OptErr, Options};
 use crate::table::OptionTable;
-use hs_world::{Text, TextList};
+use hs_text::{Text, TextList};
 use std::alloc::{AllocError, Global};
 
 /// Whether the word ends the options.

@@ -1,5 +1,5 @@
 use crate::{GivenList, OptErr, OptionTable, Options, read_options};
-use hs_world::{Text, TextList};
+use hs_text::{Text, TextList};
 use std::alloc::{AllocError, Global};
 use std::process::Abort;
 use std::test::Fail;

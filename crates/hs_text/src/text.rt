@@ -1,7 +1,7 @@
 //! Bytes that contracts see as a list. A clone shares them, and a change of shared bytes copies them first. A few bytes
 //! are held in place. A clone costs the same at any length; `extend` is amortised O(what is added) where no other text
 //! shares the bytes, and copies them once where one does.
-ghost use Rattle.std.specs.Prelude.{◌≡◌, ◌↔◌, ℕ, List, [], ◌∷◌, ◌++◌, length, IfOk, OnOk, OnErr, IsTrue, Some, nat_eq, refl};
+ghost use Rattle.std.specs.Prelude.{◌≡◌, ◌↔◌, ℕ, List, [], ◌∷◌, ◌++◌, length, IfOk, OnOk, OnErr, IsTrue, Some, nat_eq, refl, option_copied};
 ghost use Rattle.std.specs.Ordering.{nat_cmp};
 ghost use Rattle.std.specs.Cmp.Lexicographic.{pointwise, slice_cmp, nat_list_eq_equiv, nat_list_cmp_total, texts_ties, texts_po};
 ghost use Rattle.std.specs.Cmp.{partial_equiv_from_equiv};
@@ -31,7 +31,7 @@ impl Model for Text {
 
     ghost Value = { List ℕ };
 
-    ghost use Rattle.hs_world.specs.Held.{shown};
+    ghost use Rattle.hs_text.specs.Held.{shown};
 
     ghost view = { λ a. shown a.held };
 }
@@ -106,6 +106,13 @@ impl Text {
         self.as_slice().is_empty()
     }
 
+    /// Whether the two are equal.
+    pub fn same(&self, other: &Text) -> bool
+        ensures { IsTrue result ↔ (self.now ≡ other.now) }
+    {
+        self.as_slice() == other.as_slice()
+    }
+
     /// Puts bytes behind the text. Where there is no memory, the text stays.
     pub fn extend(&mut self, more: &[u8]) -> Result<(), AllocError>
         ensures ok { OnOk result (self.new ≡ self.old ++ more.now) }
@@ -125,6 +132,27 @@ impl Text {
             }
             Held::Shared(block) => extend_block(self.alloc, block, more),
         }
+    }
+}
+
+/// Whether the two are equal, or neither is there.
+pub fn same_texts(a: Option<&Text>, b: Option<&Text>) -> bool
+    ensures { IsTrue result ↔ (option_copied a.entry ≡ option_copied b.entry) }
+{
+    match (a, b) {
+        (Some(a), Some(b)) => a.same(b),
+        (None, None) => true,
+        _ => false,
+    }
+}
+
+/// A copy, where there is one.
+pub fn copied(text: Option<&Text>) -> Result<Option<Text>, AllocError>
+    ensures { IfOk result (λ copy. copy ≡ option_copied text.entry) }
+{
+    match text {
+        Some(text) => Ok(Some(text.clone()?)),
+        None => Ok(None),
     }
 }
 

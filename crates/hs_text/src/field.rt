@@ -6,7 +6,7 @@ use std::alloc::{AllocError, Global};
 use std::marker::Model;
 
 /// The bytes of a field, each with whether it is quoted. Adding at the end is amortised O(1).
-#[derive(Clone, Drop)]
+#[derive(Drop)]
 pub struct Field {
     items: Vec<(u8, bool)>,
 }
@@ -44,8 +44,18 @@ impl Field {
     }
 }
 
+impl Clone for Field {
+    ghost is_clone = { λ x y. y ≡ x };
+
+    fn clone(&self) -> Result<Field, AllocError> {
+        Ok(Field {
+            items: self.items.clone()?,
+        })
+    }
+}
+
 /// A list of fields.
-#[derive(Clone, Drop)]
+#[derive(Drop)]
 pub struct Fields {
     items: Vec<Field>,
 }
@@ -80,5 +90,15 @@ impl Fields {
     {
         self.items.push(field)?;
         Ok(())
+    }
+}
+
+impl Clone for Fields {
+    ghost is_clone = { λ x y. y ≡ x };
+
+    fn clone(&self) -> Result<Fields, AllocError> {
+        Ok(Fields {
+            items: self.items.clone()?,
+        })
     }
 }

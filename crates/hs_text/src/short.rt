@@ -1,5 +1,5 @@
 //! Up to 22 bytes, held in place: as many as leave a text no larger than a `Vec`.
-ghost use Rattle.std.specs.Prelude.{◌≡◌, ◌↔◌, ◌≤◌, ℕ, List, [], ◌∷◌, ◌++◌, length, IsTrue, IsFalse};
+ghost use Rattle.std.specs.Prelude.{◌+◌, ◌≡◌, ◌↔◌, ◌≤◌, ℕ, List, [], ◌∷◌, ◌++◌, length, IsTrue, IsFalse};
 
 use std::marker::Model;
 
@@ -57,6 +57,7 @@ impl Short {
     pub fn push(&mut self, more: &[u8]) -> bool
         ensures fits { IsTrue result → self.new ≡ self.old ++ more.now }
         ensures full { IsFalse result → self.new ≡ self.old }
+        ensures room { IsTrue result ↔ (length self.old + length more.now ≤ 22) }
     {
         let len = self.len as usize;
         if ROOM - len < more.len() {
