@@ -1,7 +1,7 @@
 //! Scripts as trees (POSIX.1-2017, XCU 2.9 and 2.10). Lists, pipelines and function bodies are numbered from 0 in the order
 //! in which they begin in the text, each kind by itself, and the trees name them by these numbers.
 
-use hs_world::Text;
+use hs_text::Text;
 use sqlite_items::Items;
 
 /// A whole script. List 0 is the script itself. A leaf is a pipeline: what runs as one.
