@@ -1,5 +1,5 @@
 -- One token, by cases on the bytes (POSIX.1-2017, XCU 2.2 and 2.3).
-use Rattle.std.specs.Prelude.{ℕ, Bool, true, false, not, ◌&&◌, ◌||◌, ◌==◌, ◌+◌, pred, nat_le, List, [], ◌∷◌, ◌++◌, Option, Some, None, if◌then◌else◌, codes}
+use Rattle.std.specs.Prelude.{ℕ, Bool, true, false, not, ◌&&◌, ◌||◌, ◌==◌, ◌+◌, pred, nat_le, List, [], ◌∷◌, Option, Some, None, if◌then◌else◌, codes}
 use Rattle.std.specs.Str.{bytes_eq}
 use Rattle.sh_syntax.specs.declared.fault.Fault.{Fault}
 use Rattle.sh_syntax.specs.declared.fault.Fault.TheVariants.{Nul, Unexpected, Unclosed, BadParameter}
@@ -21,7 +21,6 @@ use Rattle.sh_lexer.specs.declared.token.Mode.{Mode}
 use Rattle.sh_lexer.specs.declared.token.Mode.TheVariants as mode
 use Rattle.sh_lexer.specs.Bytes.{is_digit, begins_name, in_name, is_name, ends_word, plain, quoted_plain, braces_plain, quoted_braces_plain, body_plain, peel, skip, piece, single, has_nul, number, joins, special}
 use Rattle.sh_lexer.specs.Cut.{backquoted, body_of, Delimited, delimited, not_delimited, in_delimiter}
-use Rattle.sh_lexer.specs.Modes.{inside}
 
 -- a token and the bytes after it; or one after which a text that was cut out is read first, and what follows that text, unless
 -- its end is missing; or the end of the text; or why no token can be formed

@@ -5,3 +5,10 @@ pub mod Lex
 pub mod Lexes
 pub mod Modes
 pub mod Quoting
+pub mod Runs
+pub mod Delimiting
+pub mod Bodies
+pub mod Words
+pub mod Trail
+pub mod Places
+pub mod Seen

@@ -1,10 +1,12 @@
 //! Classes of bytes, and runs of them. Each run is read once.
 
-ghost use Rattle.std.specs.Prelude.{◌≡◌};
+ghost use Rattle.std.specs.Prelude.{◌≡◌, [], ◌∷◌, ◌++◌, OnOk, OnErr, Err, MatchOption};
+ghost use Rattle.sh_lexer.specs.declared.read.LexError.TheVariants.{Memory};
 ghost use Rattle.sh_lexer.specs.Bytes as spec;
 ghost use Rattle.sh_lexer.specs.Gives.{IsPair, IsSingle};
 
-use hs_world::Text;
+use crate::read::LexError;
+use hs_text::Text;
 use std::alloc::{AllocError, Global};
 
 /// Which bytes a piece is made of.
@@ -54,7 +56,7 @@ pub fn in_name(b: u8) -> bool
     begins_name(b) || b.is_ascii_digit()
 }
 
-fn plain(b: u8) -> bool
+pub fn plain(b: u8) -> bool
     ensures { result ≡ spec.plain b }
 {
     !(delimits(b) || special(b) || matches!(b, b'"' | b'\''))
@@ -162,6 +164,28 @@ pub fn single(alloc: Global, text: &[u8]) -> Result<Option<(Text, &[u8])>, Alloc
         left = rest;
     }
     Ok(None)
+}
+
+/// The first byte of a text, and what comes after it.
+pub fn first(text: &[u8]) -> Option<(u8, &[u8])>
+    ensures { MatchOption result (text.now ≡ []) (λ p. text.now ≡ p.0 ∷ p.1.now) }
+{
+    match text {
+        [] => None,
+        [b, rest @ ..] => Some((*b, rest)),
+    }
+}
+
+/// Puts a byte behind the others.
+pub fn push(bytes: &mut Vec<u8>, b: u8) -> Result<(), LexError>
+    ensures ok { OnOk result (bytes.new.items ≡ bytes.old.items ++ b ∷ []) }
+    ensures err { OnErr result (result ≡ Err Memory) }
+    ensures kept { OnErr result (bytes.new.items ≡ bytes.old.items) }
+{
+    match bytes.push(b) {
+        Ok(()) => Ok(()),
+        Err(_) => Err(LexError::Memory),
+    }
 }
 
 pub fn has_nul(text: &[u8]) -> bool

@@ -3,7 +3,7 @@
 ghost use Rattle.sh_lexer.specs.Cut as spec;
 ghost use Rattle.sh_lexer.specs.Gives.{IsCut};
 
-use hs_world::Text;
+use hs_text::Text;
 use std::alloc::{AllocError, Global};
 
 /// What stands in backquotes, after the opening one, and the text after the closing one. None: there is none.

@@ -17,13 +17,13 @@ use crate::bytes::{
 use crate::cut::backquoted;
 use crate::read::{LexError, Read};
 use crate::token::{Bit, End, Mode, Op, Opener, Token};
-use hs_world::Text;
+use hs_text::Text;
 use sh_syntax::{Fault, Opening, ParamOp, RedirOp};
 use std::alloc::Global;
 
 /// Which bytes a backslash quotes.
 #[derive(Clone, Copy, Debug, PartialEq, Eq)]
-enum Quoting {
+pub enum Quoting {
     All,
     /// In a here-document and in an arithmetic expression.
     Body,
@@ -33,27 +33,27 @@ enum Quoting {
 }
 
 /// An end, for which the grammar says how to go on.
-fn ends(end: End, rest: &[u8]) -> Result<Read<'_>, LexError>
+pub fn ends(end: End, rest: &[u8]) -> Result<Read<'_>, LexError>
     ensures { Gives result (spec.ends end rest.now) }
 {
     Ok(Read::Token(Token::End(end, Mode::Command), rest))
 }
 
-fn operator(op: Op, rest: &[u8]) -> Result<Read<'_>, LexError>
+pub fn operator(op: Op, rest: &[u8]) -> Result<Read<'_>, LexError>
     ensures { Gives result (spec.operator op rest.now) }
 {
     Ok(Read::Token(Token::Operator(op), rest))
 }
 
 /// The longest run of bytes of the class.
-fn plain_text(alloc: Global, class: Class, text: &[u8]) -> Result<Read<'_>, LexError>
+pub fn plain_text(alloc: Global, class: Class, text: &[u8]) -> Result<Read<'_>, LexError>
     ensures { Gives result (spec.plain_text (bytes.piece (bytes.stands class) text.now)) }
 {
     let (bytes, rest) = piece(alloc, class, text)?;
     Ok(Read::Token(Token::Part(Bit::Piece(bytes)), rest))
 }
 
-fn begins_nul(text: &[u8]) -> bool
+pub fn begins_nul(text: &[u8]) -> bool
     ensures { result ≡ spec.begins_nul text.now }
 {
     matches!(text, [0, ..])
@@ -369,7 +369,7 @@ fn backquote(alloc: Global, mode: Mode, text: &[u8]) -> Result<Read<'_>, LexErro
 
 /// A byte that stands for itself in single quotes alone, and the text after it.
 #[tactic(auto, unfolding(crate::specs::Lex::special_at))]
-fn special_at(
+pub fn special_at(
     alloc: Global,
     mode: Mode,
     quoting: Quoting,
@@ -470,7 +470,7 @@ fn bit_at(alloc: Global, mode: Mode, class: Class, text: &[u8]) -> Result<Read<'
 }
 
 #[tactic(auto, unfolding(crate::specs::Bytes::stands))]
-fn word_bit(alloc: Global, text: &[u8]) -> Result<Read<'_>, LexError>
+pub fn word_bit(alloc: Global, text: &[u8]) -> Result<Read<'_>, LexError>
     ensures { Gives result (spec.bit_at mode.Word bytes.plain text.now) }
 {
     bit_at(alloc, Mode::Word, Class::Plain, text)
@@ -484,7 +484,7 @@ fn braces_bit(alloc: Global, text: &[u8]) -> Result<Read<'_>, LexError>
 }
 
 #[tactic(auto, unfolding(crate::specs::Lex::in_word))]
-fn in_word(alloc: Global, text: &[u8]) -> Result<Read<'_>, LexError>
+pub fn in_word(alloc: Global, text: &[u8]) -> Result<Read<'_>, LexError>
     ensures { Gives result (spec.in_word text.now) }
 {
     if ends_word(text) {
@@ -494,7 +494,7 @@ fn in_word(alloc: Global, text: &[u8]) -> Result<Read<'_>, LexError>
 }
 
 #[tactic(auto, unfolding(crate::specs::Lex::in_quotes))]
-fn in_quotes(alloc: Global, text: &[u8]) -> Result<Read<'_>, LexError>
+pub fn in_quotes(alloc: Global, text: &[u8]) -> Result<Read<'_>, LexError>
     ensures { Gives result (spec.in_quotes text.now) }
 {
     match text {
@@ -507,7 +507,7 @@ fn in_quotes(alloc: Global, text: &[u8]) -> Result<Read<'_>, LexError>
 
 /// The word of `${x-`.
 #[tactic(auto, unfolding(crate::specs::Lex::in_plain_braces))]
-fn in_plain_braces(alloc: Global, text: &[u8]) -> Result<Read<'_>, LexError>
+pub fn in_plain_braces(alloc: Global, text: &[u8]) -> Result<Read<'_>, LexError>
     ensures { Gives result (spec.in_plain_braces text.now) }
 {
     match text {
@@ -519,7 +519,7 @@ fn in_plain_braces(alloc: Global, text: &[u8]) -> Result<Read<'_>, LexError>
 
 /// The same, in double quotes.
 #[tactic(auto, unfolding(crate::specs::Lex::in_quoted_braces))]
-fn in_quoted_braces(alloc: Global, text: &[u8]) -> Result<Read<'_>, LexError>
+pub fn in_quoted_braces(alloc: Global, text: &[u8]) -> Result<Read<'_>, LexError>
     ensures { Gives result (spec.in_quoted_braces text.now) }
 {
     match text {
@@ -535,7 +535,7 @@ fn in_quoted_braces(alloc: Global, text: &[u8]) -> Result<Read<'_>, LexError>
 }
 
 #[tactic(auto, unfolding(crate::specs::Lex::in_body))]
-fn in_body(alloc: Global, text: &[u8]) -> Result<Read<'_>, LexError>
+pub fn in_body(alloc: Global, text: &[u8]) -> Result<Read<'_>, LexError>
     ensures { Gives result (spec.in_body text.now) }
 {
     match text {
@@ -563,7 +563,7 @@ fn here(fd: u8, text: &[u8]) -> Result<Read<'_>, LexError>
 
 /// After `<`.
 #[tactic(auto, unfolding(crate::specs::Lex::less))]
-fn less(fd: u8, text: &[u8]) -> Result<Read<'_>, LexError>
+pub fn less(fd: u8, text: &[u8]) -> Result<Read<'_>, LexError>
     ensures { Gives result (spec.less fd text.now) }
 {
     match text {
@@ -576,7 +576,7 @@ fn less(fd: u8, text: &[u8]) -> Result<Read<'_>, LexError>
 
 /// After `>`.
 #[tactic(auto, unfolding(crate::specs::Lex::greater))]
-fn greater(fd: u8, text: &[u8]) -> Result<Read<'_>, LexError>
+pub fn greater(fd: u8, text: &[u8]) -> Result<Read<'_>, LexError>
     ensures { Gives result (spec.greater fd text.now) }
 {
     match text {
@@ -588,7 +588,7 @@ fn greater(fd: u8, text: &[u8]) -> Result<Read<'_>, LexError>
 }
 
 /// After `;`.
-fn semi(text: &[u8]) -> Result<Read<'_>, LexError>
+pub fn semi(text: &[u8]) -> Result<Read<'_>, LexError>
     ensures { Gives result (spec.two 59 (spec.operator op.Semi text.now) op.DoubleSemi text.now) }
 {
     match text {
@@ -598,7 +598,7 @@ fn semi(text: &[u8]) -> Result<Read<'_>, LexError>
 }
 
 /// After `&`.
-fn ampersand(text: &[u8]) -> Result<Read<'_>, LexError>
+pub fn ampersand(text: &[u8]) -> Result<Read<'_>, LexError>
     ensures { Gives result (spec.two 38 (bad Unexpected) op.AndIf text.now) }
 {
     match text {
@@ -608,7 +608,7 @@ fn ampersand(text: &[u8]) -> Result<Read<'_>, LexError>
 }
 
 /// After `|`.
-fn bar(text: &[u8]) -> Result<Read<'_>, LexError>
+pub fn bar(text: &[u8]) -> Result<Read<'_>, LexError>
     ensures { Gives result (spec.two 124 (spec.operator op.Pipe text.now) op.OrIf text.now) }
 {
     match text {
@@ -617,13 +617,13 @@ fn bar(text: &[u8]) -> Result<Read<'_>, LexError>
     }
 }
 
-fn opens_parenthesis(text: &[u8]) -> bool
+pub fn opens_parenthesis(text: &[u8]) -> bool
     ensures { result ≡ spec.opens_parenthesis text.now }
 {
     matches!(text, [b'(', ..])
 }
 
-fn special_builtin(word: &[u8]) -> bool
+pub fn special_builtin(word: &[u8]) -> bool
     ensures { result ≡ spec.special_builtin word.now }
 {
     word == b":".as_slice()

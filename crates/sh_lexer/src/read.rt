@@ -1,7 +1,7 @@
 //! What comes of reading a token.
 
 use crate::token::Token;
-use hs_world::Text;
+use hs_text::Text;
 use sh_syntax::Fault;
 use std::alloc::AllocError;
 

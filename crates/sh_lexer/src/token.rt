@@ -1,7 +1,7 @@
 //! Tokens (POSIX.1-2017, XCU 2.3 and 2.10). They are small: an operator, a piece of a word, what begins or ends a quote. Some
 //! bytes may be one of several tokens, as a `)` may end a subshell or a substitution; the grammar takes the one it wants.
 
-use hs_world::Text;
+use hs_text::Text;
 use sh_syntax::{ParamOp, RedirOp};
 
 /// Control operators and reserved words (XCU 2.4, 2.10.2).

@@ -1,4 +1,4 @@
-use Rattle.std.proofs.Common.{◌≡◌, List, [], false, length}
+use Rattle.std.proofs.Common.{◌≡◌, length}
 use Rattle.sh_lexer.specs.Cut as spec
 use Rattle.sh_lexer.proofs.cut.backquoted.Given as goal
 

@@ -1,0 +1,10 @@
+mod Sums
+mod Fronts
+mod Delimiters
+mod Bodies
+mod Numbers
+mod Left
+mod Takes
+mod Spots
+mod Trails
+mod Examples
