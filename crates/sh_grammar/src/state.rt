@@ -1,6 +1,7 @@
 //! What has been read of a script.
 
-use hs_world::Text;
+use crate::stack::Stack;
+use hs_text::Text;
 use sh_lexer::{Here, Mode};
 use sh_syntax::{AndOr, Command, Compound, Join, ParamOp, Part, Redir, RedirOp, Script, Word};
 use sqlite_items::Items;
@@ -83,7 +84,7 @@ pub enum Gap {
 pub enum Now {
     Gap(Gap),
     /// The bodies of these here-documents come next, and then newlines may go on.
-    Due(Due, Items<Due>, Gap),
+    Due(Due, Stack<Due>, Gap),
     /// Parts of a word, or of what is in it.
     Parts(Items<Part>),
     /// A simple command, between words.
@@ -144,5 +145,5 @@ pub enum Below {
     Command(Items<Part>, Mode, u32),
     Backquote(Items<Part>, Mode, u32),
     /// The body of a here-document: its number, and what follows it.
-    Body(u32, Items<Due>, Gap),
+    Body(u32, Stack<Due>, Gap),
 }
