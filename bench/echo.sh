@@ -4,6 +4,8 @@
 # Usage: bench/echo.sh [ROUNDS], from anywhere; 200 rounds if none are given.
 cd "$(dirname "$0")/.." || exit 1
 rounds=${1:-200}
+series=5
+. bench/timing.sh
 ./hs -c '' || exit 1
 command -v dash >/dev/null || { echo "bench: no dash to compare with" >&2; exit 1; }
 
@@ -14,29 +16,13 @@ while [ $k -lt 1000 ]; do
     k=$((k + 1))
 done
 
-# the microseconds of one run of a command with `-c TEXT`: the best of five series
-time_of() {
-    best=
-    series=0
-    while [ $series -lt 5 ]; do
-        begin=$(date +%s%N)
-        k=0
-        while [ $k -lt "$rounds" ]; do
-            "$1" -c "$2" >/dev/null
-            k=$((k + 1))
-        done
-        end=$(date +%s%N)
-        now=$(((end - begin) / rounds / 1000))
-        if [ -z "$best" ] || [ $now -lt "$best" ]; then best=$now; fi
-        series=$((series + 1))
-    done
-    echo "$best"
-}
-
 compare() {
-    theirs=$(time_of dash "$2")
-    ours=$(time_of crates/hs_main/out/hs_main "$2")
-    script=$(time_of ./hs "$2")
+    best_of dash -c "$2"
+    theirs=$best
+    best_of crates/hs_main/out/hs_main -c "$2"
+    ours=$best
+    best_of ./hs -c "$2"
+    script=$best
     echo "$1: dash $theirs us, hs $ours us (ratio $((ours * 100 / theirs))%), ./hs $script us (ratio $((script * 100 / theirs))%)"
 }
 
