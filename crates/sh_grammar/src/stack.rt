@@ -1,7 +1,7 @@
 //! A stack that contracts see as the list of its items, the top one first. Each call is amortised O(1), but for
 //! `from_items`, which is linear.
 
-ghost use Rattle.std.specs.Prelude.{◌≡◌, [], ◌∷◌, IfOk, MatchOption, OnOk, length, slice_get};
+ghost use Rattle.std.specs.Prelude.{◌≡◌, [], ◌∷◌, IfOk, MatchOption, OnErr, OnOk, length, slice_get};
 ghost use Rattle.std.specs.Option.{option_copied};
 
 use sqlite_items::Items;
@@ -60,8 +60,10 @@ impl<T> Stack<T> {
 }
 
 impl<T: Drop> Stack<T> {
+    /// Puts one on top. Where there is no memory, the stack stays.
     pub fn push(&mut self, x: T) -> Result<(), AllocError>
-        ensures { OnOk result (self.new ≡ x ∷ self.old) }
+        ensures ok { OnOk result (self.new ≡ x ∷ self.old) }
+        ensures err { OnErr result (self.new ≡ self.old) }
     {
         self.items.push(x)
     }
