@@ -1,1 +1,11 @@
+pub mod Files
+pub mod Folders
+pub mod Locs
+pub mod Names
+pub mod Paths
+pub mod Reads
+pub mod Seen
+pub mod Shells
+pub mod Tables
+pub mod Vars
 pub mod World
