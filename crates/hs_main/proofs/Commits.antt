@@ -5,7 +5,8 @@ use Rattle.hs_world.specs.declared.effect.Effect.{Effect}
 use Rattle.hs_world.specs.declared.effect.Fd.{Fd}
 use Rattle.hs_world.specs.declared.effect.Fd.TheVariants.{One, Two}
 use Rattle.hs_world.specs.declared.world.Limit.{Limit}
-use Rattle.hs_world.specs.World.{WorldData, Apply, Applied, passed, sent, output, errors}
+use Rattle.hs_world.specs.declared.effect.Effect.TheVariants.{Emit}
+use Rattle.hs_world.specs.World.{WorldData, Apply, Applied, passed, sent, sent_by, output, errors}
 use Rattle.hs_world.proofs.Laws.{Applied-append, written-append}
 use Rattle.hs_outside.specs.Causes.{Rose}
 use Rattle.hs_outside.specs.Streams.{appended}
@@ -16,7 +17,7 @@ use Rattle.sh_leaf.proofs.Cuts.{misfit-append, fitting-append, misfit-front, fit
 use Rattle.hs_main.specs.declared.commit.Stop.{Stop}
 use Rattle.hs_main.specs.declared.commit.Stop.TheVariants as stop
 use Rattle.hs_main.specs.Commit.{Streams, gained, IsCommitted, IsShort, IsCutOn, IsFront, IsFault, IsWant, Commits}
-use Rattle.hs_main.specs.Through.{written_by}
+use Rattle.hs_main.specs.Through.{written_by, target_of, text_of, with_text}
 
 append-nil : {A : Type 0} (xs : List A) → xs ++ [] ≡ xs
 append-nil [] = refl
@@ -50,8 +51,20 @@ misfit-one e w o h = ap (λ (x : Option Limit). pick x None (λ limit. Some limi
 fitting-none : (e : Effect) (w : WorldData) (limit : Limit) → passed e w ≡ Some limit → fitting (e ∷ []) w ≡ []
 fitting-none e w limit h = ap (λ (x : Option Limit). pick x (e ∷ []) (λ l. [])) h
 
-pub commits-one : (e : Effect) (w w' : WorldData) (s t : Streams) → passed e w ≡ None → w' ≡ Apply e w → t ≡ written_by e w s → IsCommitted (e ∷ []) w w' s t
-commits-one e w w' s t f a h = record { fit = misfit-one e w None f; world = a; streams = h ∙ gained-one e w s }
+sent-target : (fd : Fd) (e : Effect) (w : WorldData) → sent_by (target_of e w) fd (text_of e) ≡ sent fd e w
+sent-target fd (Emit d text) w = refl
+sent-target fd e w = refl
+
+sent-as : (fd : Fd) (e : Effect) (w : WorldData) (to : Option Fd) (text : List ℕ) → to ≡ target_of e w → text ≡ text_of e → sent_by to fd text ≡ sent fd e w
+sent-as fd e w to text f g = ap (λ (x : Option Fd). sent_by x fd text) f ∙ ap (λ (x : List ℕ). sent_by (target_of e w) fd x) g ∙ sent-target fd e w
+
+with-sent : (e : Effect) (w : WorldData) (s : Streams) (to : Option Fd) (text : List ℕ) → to ≡ target_of e w → text ≡ text_of e → with_text to text s ≡ written_by e w s
+with-sent e w s to text f g =
+    streams (ap (λ (x : List ℕ). appended s.out x) (sent-as One e w to text f g)) (ap (λ (x : List ℕ). appended s.err x) (sent-as Two e w to text f g))
+
+pub commits-one : (e : Effect) (w w' : WorldData) (s t : Streams) (to : Option Fd) (text : List ℕ) → passed e w ≡ None → w' ≡ Apply e w → to ≡ target_of e w → text ≡ text_of e →
+    t ≡ with_text to text s → IsCommitted (e ∷ []) w w' s t
+commits-one e w w' s t to text f a g k h = record { fit = misfit-one e w None f; world = a; streams = h ∙ with-sent e w s to text g k ∙ gained-one e w s }
 
 -- ---- two parts
 
@@ -135,12 +148,12 @@ stops-before out err es fs w u s r stop.NoMemory (done, front, d) =
 
 -- ---- one effect that stops
 
-pub one-spent : (out err : Type 0) (e : Effect) (w w' : WorldData) (s : Streams) (limit : Limit) (kind : SpentKind) → passed e w ≡ Some limit → kind ≡ kind_of limit → w' ≡ w →
+pub one-spent : (out err : Type 0) (e : Effect) (w w' : WorldData) (s : Streams) (limit same-limit : Limit) (kind : SpentKind) → passed e w ≡ Some limit → same-limit ≡ limit → kind ≡ kind_of same-limit → w' ≡ w →
     Commits out err (e ∷ []) w w' s s (Err (stop.Spent kind))
-one-spent out err e w w' s limit kind p k same = (
+one-spent out err e w w' s limit same-limit kind p l k same = (
   limit,
   misfit-one e w (Some limit) p,
-  k,
+  k ∙ ap (λ (x : Limit). kind_of x) l,
   subst (λ (xs : List Effect). IsCommitted xs w w' s s) (sym (fitting-none e w limit p)) (subst (λ (x : WorldData). IsCommitted [] w x s s) (sym same) (commits-nothing w s)),
 )
 
@@ -148,31 +161,33 @@ pub one-wants : (out err : Type 0) (e : Effect) (w w' : WorldData) (s : Streams)
 one-wants out err e w w' s same =
     ([], record { rest = e ∷ []; whole = refl }, inl (subst (λ (x : WorldData). IsCommitted [] w x s s) (sym same) (commits-nothing w s)))
 
-one-short : (fd : Fd) (e : Effect) (w w' : WorldData) (s t : Streams) → passed e w ≡ None → w' ≡ Apply e w →
-    IsCutOn fd s (written_by e w s) t (sent fd e w) → IsShort fd (e ∷ []) w w' s t
-one-short fd e w w' s t p a c = record {
+one-short : (fd : Fd) (e : Effect) (w w' : WorldData) (s t : Streams) (to : Option Fd) (text : List ℕ) → passed e w ≡ None → w' ≡ Apply e w → to ≡ target_of e w → text ≡ text_of e →
+    IsCutOn fd s (with_text to text s) t (sent_by to fd text) → IsShort fd (e ∷ []) w w' s t
+one-short fd e w w' s t to text p a g k c = record {
   front = [];
   last = e;
   whole = refl;
   fit = misfit-one e w None p;
   world = a;
-  cut = cut-on fd _ _ _ _ t _ _ (sym (gained-nil w s)) (gained-one e w s) refl c;
+  cut = cut-on fd _ _ _ _ t _ _ (sym (gained-nil w s)) (with-sent e w s to text g k ∙ gained-one e w s) (sent-as fd e w to text g k) c;
 }
 
 one-front : (e : Effect) → IsFront (e ∷ []) (e ∷ [])
 one-front e = record { rest = []; whole = refl }
 
-pub one-faults : (out err : Type 0) (e : Effect) (w w' : WorldData) (s t : Streams) → passed e w ≡ None → w' ≡ Apply e w →
-    (out × IsCutOn One s (written_by e w s) t (sent One e w)) ⊎ (err × IsCutOn Two s (written_by e w s) t (sent Two e w)) →
+pub one-faults : (out err : Type 0) (e : Effect) (w w' : WorldData) (s t : Streams) (to : Option Fd) (text : List ℕ) → passed e w ≡ None → w' ≡ Apply e w →
+    to ≡ target_of e w → text ≡ text_of e →
+    (out × IsCutOn One s (with_text to text s) t (sent_by to One text)) ⊎ (err × IsCutOn Two s (with_text to text s) t (sent_by to Two text)) →
     Commits out err (e ∷ []) w w' s t (Err stop.OutFault)
-one-faults out err e w w' s t p a (inl (o, c)) = (e ∷ [], one-front e, inl (o, one-short One e w w' s t p a c))
-one-faults out err e w w' s t p a (inr (o, c)) = (e ∷ [], one-front e, inr (o, one-short Two e w w' s t p a c))
+one-faults out err e w w' s t to text p a g k (inl (o, c)) = (e ∷ [], one-front e, inl (o, one-short One e w w' s t to text p a g k c))
+one-faults out err e w w' s t to text p a g k (inr (o, c)) = (e ∷ [], one-front e, inr (o, one-short Two e w w' s t to text p a g k c))
 
-pub one-cut : (out err : Type 0) (e : Effect) (w w' : WorldData) (s t : Streams) → passed e w ≡ None → w' ≡ Apply e w →
-    IsCutOn One s (written_by e w s) t (sent One e w) ⊎ IsCutOn Two s (written_by e w s) t (sent Two e w) →
+pub one-cut : (out err : Type 0) (e : Effect) (w w' : WorldData) (s t : Streams) (to : Option Fd) (text : List ℕ) → passed e w ≡ None → w' ≡ Apply e w →
+    to ≡ target_of e w → text ≡ text_of e →
+    IsCutOn One s (with_text to text s) t (sent_by to One text) ⊎ IsCutOn Two s (with_text to text s) t (sent_by to Two text) →
     Commits out err (e ∷ []) w w' s t (Err stop.NoMemory)
-one-cut out err e w w' s t p a (inl c) = (e ∷ [], one-front e, inr (inl (one-short One e w w' s t p a c)))
-one-cut out err e w w' s t p a (inr c) = (e ∷ [], one-front e, inr (inr (one-short Two e w w' s t p a c)))
+one-cut out err e w w' s t to text p a g k (inl c) = (e ∷ [], one-front e, inr (inl (one-short One e w w' s t to text p a g k c)))
+one-cut out err e w w' s t to text p a g k (inr c) = (e ∷ [], one-front e, inr (inr (one-short Two e w w' s t to text p a g k c)))
 
 pub rose-later : (a b c : ℕ) → a ≤ b → Rose b c → Rose a c
 rose-later a b c h r = omega arith

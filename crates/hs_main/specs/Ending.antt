@@ -1,7 +1,7 @@
 -- The statuses of a run, and the lines that say how it ended.
 use Rattle.std.specs.Prelude.{ℕ, List, [], ◌∷◌, ◌++◌, codes}
 use Rattle.sh_leaf.specs.declared.spent.SpentKind.{SpentKind}
-use Rattle.sh_leaf.specs.declared.spent.SpentKind.TheVariants.{Turns, Bytes}
+use Rattle.sh_leaf.specs.declared.spent.SpentKind.TheVariants.{Turns, Bytes, Tree}
 use Rattle.hs_main.specs.declared.ending.Ending.{Ending}
 use Rattle.hs_main.specs.declared.ending.Ending.TheVariants.{Done, Unbuilt, OutFault, Spent, NoMemory}
 
@@ -15,6 +15,7 @@ status_of NoMemory = 125
 abbrev pub kind_name : SpentKind → List ℕ
 kind_name Turns = codes "turns"
 kind_name Bytes = codes "bytes"
+kind_name Tree = codes "tree"
 
 abbrev pub line_of : Ending → List ℕ
 line_of (Done status) = []

@@ -1,6 +1,7 @@
 -- What the whole program does.
 use Rattle.std.specs.Prelude.{◌≡◌, ◌⊎◌, ℕ, ◌≤◌, List, [], ◌∷◌, ◌++◌, length, codes}
-use Rattle.hs_world.specs.World.{WorldData}
+use Rattle.std.specs.FinMap.{empty}
+use Rattle.hs_world.specs.World.{WorldData, new_world}
 use Rattle.hs_outside.specs.Streams.{appended}
 use Rattle.sh_parser.specs.declared.tree.Script.{Script}
 use Rattle.sh_parser.specs.Spells.{IsScriptOf, IsBuilt, longest}
@@ -29,7 +30,7 @@ abbrev pub default_turns : ℕ
 default_turns = 1000000
 
 abbrev pub start : WorldData
-start = record { status = 0; limit = 16777216; count = 0 }
+start = new_world empty [] (codes "hs") [] [] (record { bytes = 16777216; turns = default_turns })
 
 abbrev pub no_report : Report
 no_report = record { head = 0; turns = 0; count = 0 }

@@ -1,11 +1,10 @@
 //! Committing effects: each is applied to the world first, and then written through to the streams.
 
 ghost use Rattle.std.specs.Prelude.{◌≡◌, ◌≤◌, [], ◌∷◌};
-ghost use Rattle.hs_world.specs.World.{WorldData};
 ghost use Rattle.hs_outside.specs.Causes.{Rose};
 ghost use Rattle.sh_leaf.specs.Run.{kind_of};
 ghost use Rattle.hs_main.specs.Commit.{Commits, Streams};
-ghost use Rattle.hs_main.specs.Through.{Writes};
+ghost use Rattle.hs_main.specs.Through.{Writes, target_of, text_of};
 
 use hs_outside::{Failed, Sink, send};
 use hs_world::{Effect, Fd, Limit, World, WorldErr};
@@ -25,20 +24,46 @@ fn kind_of(limit: Limit) -> SpentKind
 {
     match limit {
         Limit::Bytes => SpentKind::Bytes,
+        Limit::Tree => SpentKind::Tree,
     }
 }
 
-/// Writes what an effect sends to the streams.
-fn write_through<O: Sink, E: Sink>(effect: &Effect, out: &mut O, err: &mut E) -> Result<(), Failed>
-    ensures writes { (w : WorldData) → Writes (Rose (O.faults out.old) (O.faults out.new)) (Rose (E.faults err.old) (E.faults err.new)) effect.now w
+/// The stream that an effect writes to.
+fn target_of(world: &World, effect: &Effect) -> Option<Fd>
+    ensures { result ≡ target_of effect.now world.now }
+{
+    match effect {
+        Effect::Emit(fd, _) => world.stream(*fd),
+        _ => None,
+    }
+}
+
+/// What an effect writes there.
+fn text_of(effect: &Effect) -> &[u8]
+    ensures { result.now ≡ text_of effect.now }
+{
+    match effect {
+        Effect::Emit(_, text) => text.as_slice(),
+        _ => &[],
+    }
+}
+
+/// Writes a text to this one of the streams.
+fn write_through<O: Sink, E: Sink>(
+    to: Option<Fd>,
+    text: &[u8],
+    out: &mut O,
+    err: &mut E,
+) -> Result<(), Failed>
+    ensures writes { Writes (Rose (O.faults out.old) (O.faults out.new)) (Rose (E.faults err.old) (E.faults err.new)) to text.now
         (record { out = O.written out.old; err = E.written err.old }) (record { out = O.written out.new; err = E.written err.new }) result }
     ensures out_later { O.faults out.old ≤ O.faults out.new }
     ensures err_later { E.faults err.old ≤ E.faults err.new }
 {
-    match effect {
-        Effect::Emit(Fd::One, bytes) => send(out, bytes.as_slice()),
-        Effect::Emit(Fd::Two, bytes) => send(err, bytes.as_slice()),
-        Effect::SetStatus(_) => Ok(()),
+    match to {
+        Some(Fd::One) => send(out, text),
+        Some(Fd::Two) => send(err, text),
+        None => Ok(()),
     }
 }
 
@@ -54,12 +79,13 @@ fn commit<O: Sink, E: Sink>(
     ensures out_later { O.faults out.old ≤ O.faults out.new }
     ensures err_later { E.faults err.old ≤ E.faults err.new }
 {
+    let to = target_of(world, effect);
     match world.apply(effect) {
         Ok(()) => {}
         Err(WorldErr::Full(limit)) => return Err(Stop::Spent(kind_of(limit))),
         Err(WorldErr::NoMemory) => return Err(Stop::NoMemory),
     }
-    match write_through(effect, out, err) {
+    match write_through(to, text_of(effect), out, err) {
         Ok(()) => Ok(()),
         Err(Failed::Fault) => Err(Stop::OutFault),
         Err(Failed::NoMemory) => Err(Stop::NoMemory),

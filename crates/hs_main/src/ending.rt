@@ -42,6 +42,7 @@ impl Ending {
             Ending::Unbuilt => b"hs: not built yet\n",
             Ending::Spent(SpentKind::Turns) => b"hs: budget spent: turns\n",
             Ending::Spent(SpentKind::Bytes) => b"hs: budget spent: bytes\n",
+            Ending::Spent(SpentKind::Tree) => b"hs: budget spent: tree\n",
             Ending::NoMemory => b"hs: out of memory\n",
         }
     }

@@ -5,8 +5,8 @@ use crate::gate::NoGate;
 use crate::run::plain;
 use crate::top::top;
 use hs_outside::{MemoryHost, MemorySink, MemorySource};
-use hs_text::Text;
-use hs_world::{Limits, World};
+use hs_text::{Text, TextList};
+use hs_world::{Limits, Tree, World};
 use sh_leaf::SpentKind;
 use sh_parser::parse;
 use std::alloc::{AllocError, Global};
@@ -161,15 +161,16 @@ fn a_run_with_one_turn_does_one_command(rt: HostRuntime) -> Result<(), Fail> {
     let mut out = MemorySink::new(alloc, 2, Vec::new(alloc))?;
     let mut err = MemorySink::new(alloc, 2, Vec::new(alloc))?;
     let mut host = MemoryHost::new();
-    let (ending, report) = plain(
+    let world = World::new(
         alloc,
-        script,
-        World::new(limits),
+        Tree::new(alloc),
+        Vec::new(alloc),
+        Text::new(alloc),
+        TextList::new(alloc),
+        Text::new(alloc),
         limits,
-        &mut host,
-        &mut out,
-        &mut err,
-    );
+    )?;
+    let (ending, report) = plain(alloc, script, world, limits, &mut host, &mut out, &mut err);
     assert_eq!(rt; ending, Ending::Spent(SpentKind::Turns));
     assert_eq!(rt; report.count, 2);
     assert!(rt; out.written() == b"a\n".as_slice());

@@ -1,19 +1,19 @@
 //! The whole program, from its words to its status.
 
-ghost use Rattle.std.specs.Prelude.{◌≡◌, ◌≤◌, ℕ, List, MatchOption};
+ghost use Rattle.std.specs.Prelude.{◌≡◌, ◌≤◌, ℕ, List, IfOk, MatchOption};
 ghost use Rattle.hs_outside.specs.Causes.{Rose};
 ghost use Rattle.hs_main.specs.Ending.{status_of};
 ghost use Rattle.hs_main.specs.Commit.{Streams};
-ghost use Rattle.hs_main.specs.Top.{Asks, IsCompleteFor, RunsWords, Tops, no_report};
+ghost use Rattle.hs_main.specs.Top.{Asks, IsCompleteFor, RunsWords, Tops, no_report, start};
 
 use crate::ending::{Answer, Ending, Report};
 use crate::gate::Gate;
 use crate::run::plain;
 use hs_outside::{Host, Sink, Source, send};
-use hs_text::Text;
-use hs_world::{Limits, World};
+use hs_text::{Text, TextList};
+use hs_world::{Limits, Tree, World, WorldErr};
 use sh_parser::{ParseErr, Script, parse};
-use std::alloc::Global;
+use std::alloc::{AllocError, Global};
 use std::sync::Arc;
 
 /// The limits of a run that is given none.
@@ -21,6 +21,26 @@ const LIMITS: Limits = Limits {
     bytes: 16_777_216,
     turns: 1_000_000,
 };
+
+/// The state in which a script begins: no file, no variable, and no parameter but `$0`.
+fn start(alloc: Global) -> Result<World, AllocError>
+    ensures { IfOk result (λ world. world ≡ start) }
+{
+    let zero = Text::from_slice(alloc, b"hs")?;
+    match World::new(
+        alloc,
+        Tree::new(alloc),
+        Vec::new(alloc),
+        zero,
+        TextList::new(alloc),
+        Text::new(alloc),
+        LIMITS,
+    ) {
+        Ok(world) => Ok(world),
+        Err(WorldErr::NoMemory) => Err(AllocError),
+        Err(WorldErr::Full(_)) => unreachable!(),
+    }
+}
 
 /// Where no run began.
 fn no_report() -> Report
@@ -71,7 +91,10 @@ fn run_words<H: Host, O: Sink, E: Sink>(
     let Ok(script) = Arc::new(alloc, script) else {
         return (Ending::NoMemory, no_report());
     };
-    plain(alloc, script, World::new(LIMITS), LIMITS, host, out, err)
+    let Ok(world) = start(alloc) else {
+        return (Ending::NoMemory, no_report());
+    };
+    plain(alloc, script, world, LIMITS, host, out, err)
 }
 
 /// All that the program does: reads the words, runs the script over the host and the two sinks, and says on standard

@@ -4,7 +4,8 @@ use Rattle.std.specs.Prelude.{codes}
 use Rattle.hs_world.specs.declared.effect.Effect.{Effect}
 use Rattle.hs_world.specs.declared.effect.Effect.TheVariants.{Emit, SetStatus}
 use Rattle.hs_world.specs.declared.effect.Fd.TheVariants.{One}
-use Rattle.hs_world.specs.World.{WorldData, output, errors, Applied}
+use Rattle.std.specs.FinMap.{empty}
+use Rattle.hs_world.specs.World.{WorldData, new_world, output, errors, Applied}
 use Rattle.sh_parser.specs.declared.tree.Part.TheVariants.{Plain, Single}
 use Rattle.sh_parser.specs.declared.tree.Word.{Word}
 use Rattle.sh_parser.specs.declared.tree.Command.TheVariants.{Simple}
@@ -16,7 +17,7 @@ use Rattle.sh_leaf.specs.Do.{Ran_out}
 use Rattle.sh_leaf.specs.Run.{Done, Stopped, Serial, whole_run}
 
 abbrev w₀ : WorldData
-w₀ = record { status = 0; limit = 1024; count = 0 }
+w₀ = new_world empty [] (codes "hs") [] [] (record { bytes = 1024; turns = 1 })
 
 abbrev echo : List Word → Pipeline
 echo words = record { stages = Simple (record { parts = Plain (codes "echo") ∷ [] } ∷ words) ∷ [] }
@@ -63,7 +64,7 @@ nothing-runs = refl
 two-cut : Serial two (record w₀ { count = 4611686018427387903 }) 10 ≡ record { effects = Emit One (97 ∷ 10 ∷ []) ∷ []; ending = Stopped (Ran_out Bytes) }
 two-cut = refl
 
-applied : Applied two_effects w₀ ≡ record { status = 0; limit = 1024; count = 4 }
+applied : (Applied two_effects w₀).count ≡ 4
 applied = refl
 
 no-words : echo_line [] ≡ 10 ∷ []

@@ -1,3 +1,4 @@
 pub mod Adds
 pub mod Cuts
 mod Examples
+pub mod Valid

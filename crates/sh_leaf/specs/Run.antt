@@ -102,6 +102,7 @@ misfit (e ∷ es) w = elim (passed e w) [ None ↦ misfit es (Apply e w) | Some 
 
 abbrev pub kind_of : Limit → SpentKind
 kind_of limit.Bytes = spent.Bytes
+kind_of limit.Tree = spent.Tree
 
 abbrev pub cut_ending : Option Limit → Ending → Ending
 cut_ending None ending = ending

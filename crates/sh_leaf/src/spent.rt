@@ -7,4 +7,6 @@ pub enum SpentKind {
     Turns,
     /// The bytes of one value, or the effects of one world.
     Bytes,
+    /// The bytes or the entries of the tree.
+    Tree,
 }

@@ -1,6 +1,7 @@
 use Rattle.std.proofs.Common.{arith, refl}
+use Rattle.std.proofs.Math.ListN.{drop_of_length-le}
 use Rattle.hs_main.proofs.Commits.{rose-later}
-use Rattle.hs_main.proofs.Runs.{reached-start, reached-next, reached-stop}
+use Rattle.hs_main.proofs.Runs.{reached-start, reached-next, reached-stop, reached-end}
 use Rattle.hs_main.proofs.run.run_items.Goals as goal
 
 pub loop-item-init : goal.loop-item-init
@@ -24,3 +25,6 @@ loop-item-preserved g c = record {
   out_later = omega (arith, c.in-Ok.ensures.out_later);
   err_later = omega (arith, c.in-Ok.ensures.err_later);
 }
+
+pub returns-clause-runs : goal.returns-clause-runs
+returns-clause-runs g c = reached-end _ _ _ _ _ _ _ _ _ _ _ (drop_of_length-le _ c.loop-item-test.false) c.loop-item.invariant.reached
