@@ -3,7 +3,17 @@
 //!     hs_measure match PATTERN PIECE COUNT
 //!
 //! says whether the pattern, none of whose bytes is quoted, matches the piece written COUNT times.
+//!
+//!     hs_measure tree COUNT      puts so many entries into a tree, 512 in each folder
+//!     hs_measure append COUNT    puts 10 bytes at the end of one file, so many times
+//!     hs_measure shells COUNT    begins and ends so many subshell environments over 50 variables
+//!     hs_measure equal COUNT     compares a file of 1 MiB with an equal text, so many times
+//!     hs_measure longer COUNT    the same with a text that is longer by one byte
+//!
+//! Each prints how many effects or entries came, or comparisons said yes.
 #![tactic(auto)]
+
+mod state;
 
 use anyhow::{Context, bail};
 use hs_text::Field;
@@ -35,16 +45,32 @@ fn match_text(alloc: Global, pattern: &str, piece: &str, count: u32) -> Result<b
     Ok(matches(&pattern, &bytes))
 }
 
+/// Does one kind of work, so many times.
+fn work(alloc: Global, kind: &str, count: u32) -> anyhow::Result<u64> {
+    match kind {
+        "tree" => state::tree(alloc, count),
+        "append" => state::append(alloc, count),
+        "shells" => state::shells(alloc, count),
+        "equal" => state::compare(alloc, count, 1_048_576),
+        "longer" => state::compare(alloc, count, 1_048_577),
+        _ => bail!("no such work"),
+    }
+}
+
 fn main(rt: HostRuntime) -> anyhow::Result<()> {
     let words: Vec<String> = env::args(&rt)?.skip(1).collect(rt.alloc())?;
-    let [kind, pattern, piece, count] = words.as_slice() else {
-        bail!("usage: hs_measure match PATTERN PIECE COUNT");
-    };
-    if kind.as_str() != "match" {
-        bail!("usage: hs_measure match PATTERN PIECE COUNT");
+    match words.as_slice() {
+        [kind, pattern, piece, count] if kind.as_str() == "match" => {
+            let count = count.parse::<u32>().context("COUNT is no number")?;
+            let answer = match_text(rt.alloc(), pattern.as_str(), piece.as_str(), count)?;
+            println!(rt; "{answer}")?;
+        }
+        [kind, count] => {
+            let count = count.parse::<u32>().context("COUNT is no number")?;
+            let answer = work(rt.alloc(), kind.as_str(), count)?;
+            println!(rt; "{answer}")?;
+        }
+        _ => bail!("usage: hs_measure match PATTERN PIECE COUNT, or hs_measure WORK COUNT"),
     }
-    let count = count.parse::<u32>().context("COUNT is no number")?;
-    let answer = match_text(rt.alloc(), pattern.as_str(), piece.as_str(), count)?;
-    println!(rt; "{answer}")?;
     Ok(())
 }
