@@ -282,6 +282,16 @@ function-begins x b t (g.for_words e n w p l) = refl
 function-begins x b t (g.for_parameters e p l) = refl
 function-begins x b t (g.case_command p h n r) = refl
 
+function-named : (x : List ℕ) (b : List Below) {d : ℕ} (s : Draft) {t u : Draft} {c : Compound} {mid rest : List Token} (ts : List Token) → OneCompound d t mid rest c u →
+    run (at now.Bang b d s) (token.Function x ∷ ts) ≡ run (at (now.Name x) b d s) ts
+function-named x b s ts (g.group l) = refl
+function-named x b s ts (g.subshell l) = refl
+function-named x b s ts (g.if_command r) = refl
+function-named x b s ts (g.loop k l) = refl
+function-named x b s ts (g.for_words e n w p l) = refl
+function-named x b s ts (g.for_parameters e p l) = refl
+function-named x b s ts (g.case_command p h n r) = refl
+
 -- ---- what has ended, and the tokens after it
 
 abbrev after_list : List AndOr → List Below → ℕ → Draft → List Token → Option Script
@@ -567,9 +577,9 @@ mutual
       run (at now.Bang b d s) ts ≡ after_command c b d s' rest
   one_command b (g.simple_command {d} {t = t} {c = c} r h) e = elements-begin b r h ∙ (elements b r ∙ elements-stop c b d t e)
   one_command b (g.compound_command {d} {s' = s'} {x = x} {rs = rs} k r) e = one_compound b k ∙ (redirs x b r ∙ redirs-stop x rs b d s' e)
-  one_command b {rest = rest} (g.function {d} {s} {t} {u} {s'} {name} {x} {rs} n k r) e =
-      newlines (gap.Function name) b n refl ∙ (function-begins name b t k ∙ (one_compound _ k ∙ (redirs x _ r ∙
-      (redirs-stop x rs _ d s' e ∙ function-ends (command.Compound x rs) name (next_body t) b d s' rest))))
+  one_command b {rest = rest} (g.function {d} {s} {t} {u} {s'} {name} {x} {rs} {ts} n k r) e =
+      function-named name b s (token.Operator op.Open ∷ token.Operator op.Close ∷ ts) k ∙ (newlines (gap.Function name) b n refl ∙ (function-begins name b t k ∙ (one_compound _ k ∙ (redirs x _ r ∙
+      (redirs-stop x rs _ d s' e ∙ function-ends (command.Compound x rs) name (next_body t) b d s' rest)))))
 
   stages : (p : Pipe) (b : List Below) {d : ℕ} {s s' : Draft} {cs cs' : List Command} {ts rest : List Token} → Stages d s cs ts rest cs' s' → IsPipelineEnd rest →
       run (at now.Bang (below.Pipe (record p { stages = cs }) ∷ b) d s) ts

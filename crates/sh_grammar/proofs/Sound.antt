@@ -697,13 +697,18 @@ compound-command (compound_goes x (redirs_go r k)) = command_goes (g.compound_co
 function-command : {f : List ℕ} {b : List Below} {d : ℕ} {s : Draft} {ts : List Token} {all : Script} → NameGoes f b d s ts all → CommandGoes b d s (token.Function f ∷ ts) all
 function-command (name_goes (named_goes (gap_goes n (function_goes x r k)))) = command_goes (g.function n x r) k
 
+named-says : (f : List ℕ) (b : List Below) (d : ℕ) (s : Draft) (ts : List Token) (all : Script) →
+    Says (m.opened d (λ r. at (now.Name f) b (suc r) s)) ts all → CommandGoes b d s (token.Function f ∷ ts) all
+named-says f b zero s ts all h = absurd h
+named-says f b (suc d) s ts all h = function-command h
+
 simple-command : {b : List Below} {d : ℕ} {s : Draft} {ts : List Token} {all : Script} → ElementGoes no_simple b d s ts all → CommandGoes b d s ts all
 simple-command (element_goes r h k) = command_goes (g.simple_command r h) k
 
 one_command-says : (b : List Below) (d : ℕ) (s : Draft) (t : Token) (ts : List Token) (all : Script) →
     Says (m.one_command b d s t) ts all → CommandGoes b d s (t ∷ ts) all
 one_command-says b d s (token.Operator o) ts all h = compound-command (open_compound-says b d s o ts all h)
-one_command-says b d s (token.Function x) ts all h = function-command h
+one_command-says b d s (token.Function x) ts all h = named-says x b d s ts all h
 one_command-says b d s t ts all h = simple-command (element-says no_simple b d s t ts all h)
 
 plain-goes : {is : List AndOr} {before : Option (AndOr × Join)} {b : List Below} {d : ℕ} (s : Draft) {ts : List Token} {all : Script} →

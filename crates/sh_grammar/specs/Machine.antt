@@ -261,7 +261,8 @@ open_compound b d s o = None
 -- a command has to begin
 abbrev pub one_command : List Below → ℕ → Draft → Token → Option State
 one_command b d s (Operator o) = open_compound b d s o
-one_command b d s (token.Function x) = Some (at (now.Name x) b d s)
+-- the body of a function opens something
+one_command b d s (token.Function x) = opened d (λ r. at (now.Name x) b (suc r) s)
 one_command b d s t = element no_simple b d s t
 
 abbrev pub pipe : List AndOr → Option (AndOr × Join) → Bool → Draft → Pipe

@@ -1,0 +1,4 @@
+pub mod Begun
+pub mod Enclosed
+pub mod Kept
+pub mod Refused

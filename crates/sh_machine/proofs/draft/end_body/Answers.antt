@@ -1,0 +1,11 @@
+use Rattle.std.proofs.Common.{arith}
+use Rattle.sh_machine.proofs.Begun.{all-kept, set_long}
+use Rattle.sh_machine.proofs.draft.end_body.Goals as goal
+
+pub returns-clause-keeps : goal.returns-clause-keeps
+returns-clause-keeps c = λ b h. all-kept b c.args.draft.now _ (record {
+  lists = omega arith;
+  leaves = omega arith;
+  bodies = set_long _ _ _ _ c.set.ensures;
+  heres = omega arith;
+}) h

@@ -1,0 +1,5 @@
+pub mod Enclosing
+pub mod Numbered
+pub mod Numbers
+pub mod Steps
+pub mod Taken

@@ -1,0 +1,9 @@
+pub mod Buffers
+pub mod Pieces
+pub mod Copied
+pub mod Signs
+pub mod Lined
+pub mod Words
+pub mod Folds
+pub mod Digits
+pub mod Examples

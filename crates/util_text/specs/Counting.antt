@@ -1,0 +1,27 @@
+-- The counts of `wc` (POSIX.1-2017, XCU, `wc`). A word is a run of bytes other than space and 9 to 13.
+use Rattle.std.specs.Prelude.{ℕ, ◌+◌, Bool, true, not, ◌&&◌, ◌||◌, ◌==◌, nat_le, List, [], ◌∷◌, length, if◌then◌else◌}
+use Rattle.util_text.specs.declared.counting.Counts.{Counts}
+
+abbrev pub newline : ℕ → ℕ
+newline b = if b == 10 then 1 else 0
+
+abbrev pub newlines : List ℕ → ℕ
+newlines [] = 0
+newlines (b ∷ bs) = newline b + newlines bs
+
+-- the byte stands between words
+abbrev pub is_space : ℕ → Bool
+is_space b = b == 32 || (nat_le 9 b && nat_le b 13)
+
+-- a word that comes before these bytes ends there
+abbrev pub ends_word : List ℕ → Bool
+ends_word [] = true
+ends_word (b ∷ bs) = is_space b
+
+-- how many words there are, each counted where it ends
+abbrev pub words : List ℕ → ℕ
+words [] = 0
+words (b ∷ bs) = (if not (is_space b) && ends_word bs then 1 else 0) + words bs
+
+abbrev pub counts : List ℕ → Counts
+counts text = record { lines = newlines text; words = words text; bytes = length text }

@@ -1,0 +1,48 @@
+//! The counts of `wc` (POSIX.1-2017, XCU, `wc`).
+
+ghost use Rattle.std.specs.Prelude.{◌≡◌};
+ghost use Rattle.util_text.specs.Counting as spec;
+
+/// Newlines, words and bytes of a text, or of several: they are wide enough for any number of texts.
+#[derive(Clone, Copy, Debug, PartialEq, Eq)]
+pub struct Counts {
+    pub lines: u128,
+    pub words: u128,
+    pub bytes: u128,
+}
+
+/// 1 for a newline, else 0.
+fn newline(byte: u8) -> usize
+    ensures { result ≡ spec.newline byte }
+{
+    usize::from(byte == b'\n')
+}
+
+/// Whether the byte stands between words.
+fn is_space(byte: u8) -> bool
+    ensures { result ≡ spec.is_space byte }
+{
+    byte == b' ' || (9 <= byte && byte <= 13)
+}
+
+/// The counts of a text, in one pass.
+pub fn count(text: &[u8]) -> Counts
+    ensures { result ≡ spec.counts text.now }
+{
+    let mut lines: usize = 0;
+    let mut words: usize = 0;
+    let mut inside = false;
+    'bytes: for byte in text {
+        let space = is_space(*byte);
+        lines += newline(*byte);
+        if !inside && !space {
+            words += 1;
+        }
+        inside = !space;
+    }
+    Counts {
+        lines: lines as u128,
+        words: words as u128,
+        bytes: text.len() as u128,
+    }
+}

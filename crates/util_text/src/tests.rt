@@ -1,0 +1,174 @@
+use crate::{
+    Chosen, Counts, count, first_lines, fold, last_lines, read_count, read_ends, tail, write_counts,
+};
+use std::alloc::{AllocError, Global};
+use std::test::Fail;
+
+/// A text, a count, and the first lines.
+const HEADS: [(&str, usize, &str); 10] = [
+    ("", 3, ""),
+    ("a\nb\nc\n", 0, ""),
+    ("a\nb\nc\n", 1, "a\n"),
+    ("a\nb\nc\n", 2, "a\nb\n"),
+    ("a\nb\nc\n", 3, "a\nb\nc\n"),
+    ("a\nb\nc\n", 10, "a\nb\nc\n"),
+    ("a\nb", 1, "a\n"),
+    ("a\nb", 2, "a\nb"),
+    ("\n\na\n", 2, "\n\n"),
+    ("a", 1, "a"),
+];
+
+#[test]
+fn head_copies_the_first_lines(rt: HostRuntime) -> Result<(), Fail> {
+    for (text, n, wanted) in &HEADS {
+        assert_eq!(rt;
+            first_lines(text.as_bytes(), *n),
+            wanted.as_bytes(),
+            "{n} of {text:?}"
+        );
+    }
+    Ok(())
+}
+
+/// The value of `-n`, a text, and the lines.
+const TAILS: [(&str, &str, &str); 14] = [
+    ("2", "a\nb\nc\n", "b\nc\n"),
+    ("-2", "a\nb\nc\n", "b\nc\n"),
+    ("0", "a\nb\n", ""),
+    ("1", "a\nb", "b"),
+    ("2", "a\nb", "a\nb"),
+    ("1", "a\n\n", "\n"),
+    ("9", "a\nb\n", "a\nb\n"),
+    ("3", "", ""),
+    ("+2", "a\nb\nc\n", "b\nc\n"),
+    ("+1", "a\nb", "a\nb"),
+    ("+0", "a\nb", "a\nb"),
+    ("+2", "a\nb", "b"),
+    ("+4", "a\nb\nc\n", ""),
+    ("+00000000000000000000000000000000002", "a\nb\n", "b\n"),
+];
+
+#[test]
+fn tail_copies_the_last_lines(rt: HostRuntime) -> Result<(), Fail> {
+    for (word, text, wanted) in &TAILS {
+        let ends = read_ends(word.as_bytes())?;
+        assert_eq!(rt;
+            tail(text.as_bytes(), ends),
+            wanted.as_bytes(),
+            "{word} of {text:?}"
+        );
+    }
+    let text = b"a\nb\n";
+    assert_eq!(rt; last_lines(text, usize::MAX), text.as_slice());
+    Ok(())
+}
+
+/// A word, and the count that it is read as.
+const COUNTS: [(&str, Option<usize>); 10] = [
+    ("0", Some(0)),
+    ("007", Some(7)),
+    ("18446744073709551615", Some(usize::MAX)),
+    ("18446744073709551616", Some(usize::MAX)),
+    ("99999999999999999999999999", Some(usize::MAX)),
+    ("", None),
+    ("-1", None),
+    ("+1", None),
+    ("1 ", None),
+    ("0x1", None),
+];
+
+#[test]
+fn counts_are_decimal_digits(rt: HostRuntime) -> Result<(), Fail> {
+    for (word, wanted) in &COUNTS {
+        assert_eq!(rt; read_count(word.as_bytes()).ok(), *wanted, "{word:?}");
+    }
+    Ok(())
+}
+
+/// A text, and its newlines, words and bytes.
+const TEXTS: [(&str, u128, u128, u128); 10] = [
+    ("", 0, 0, 0),
+    ("\n", 1, 0, 1),
+    ("a", 0, 1, 1),
+    ("a b\n", 1, 2, 4),
+    ("a b", 0, 2, 3),
+    ("  a\t\tbc  \n\n", 2, 2, 11),
+    ("a\u{b}b\u{c}c\rd", 0, 4, 7),
+    ("a\0b\u{1}c", 0, 1, 5),
+    ("é à\n", 1, 2, 6),
+    ("a\nb\nc", 2, 3, 5),
+];
+
+#[test]
+fn newlines_words_and_bytes_are_counted(rt: HostRuntime) -> Result<(), Fail> {
+    for (text, lines, words, bytes) in &TEXTS {
+        let counts = count(text.as_bytes());
+        assert_eq!(rt; counts.lines, *lines, "lines of {text:?}");
+        assert_eq!(rt; counts.words, *words, "words of {text:?}");
+        assert_eq!(rt; counts.bytes, *bytes, "bytes of {text:?}");
+    }
+    Ok(())
+}
+
+fn folded(alloc: Global, text: &str, width: usize) -> Result<Vec<u8>, AllocError> {
+    let mut out = Vec::new(alloc);
+    if width > 0 {
+        fold(&mut out, text.as_bytes(), width)?;
+    }
+    Ok(out)
+}
+
+/// A width, a text, and the text that comes of it.
+const FOLDS: [(usize, &str, &str); 10] = [
+    (4, "abcdef\n", "abcd\nef\n"),
+    (4, "abcd\n", "abcd\n"),
+    (4, "abcdefgh\n", "abcd\nefgh\n"),
+    (4, "abcdefghi", "abcd\nefgh\ni\n"),
+    (1, "abc\n", "a\nb\nc\n"),
+    (80, "abc", "abc\n"),
+    (2, "", ""),
+    (2, "\n\n", "\n\n"),
+    (2, "abc\nd\n", "ab\nc\nd\n"),
+    (3, "a\tbc\n", "a\tb\nc\n"),
+];
+
+#[test]
+fn lines_are_cut_after_the_width(rt: HostRuntime) -> Result<(), Fail> {
+    for (width, text, wanted) in &FOLDS {
+        let out = folded(rt.alloc(), text, *width)?;
+        assert_eq!(rt; out.as_slice(), wanted.as_bytes(), "{width} of {text:?}");
+    }
+    Ok(())
+}
+
+/// Which counts are chosen, a name, and the line of 12 newlines, 0 words and 345 bytes.
+const LINES: [(bool, bool, bool, Option<&str>, &str); 8] = [
+    (false, false, false, None, "12 0 345\n"),
+    (true, true, true, None, "12 0 345\n"),
+    (true, false, false, None, "12\n"),
+    (false, true, false, None, "0\n"),
+    (false, false, true, Some("f"), "345 f\n"),
+    (true, false, true, Some("a b"), "12 345 a b\n"),
+    (false, true, true, Some(""), "0 345 \n"),
+    (true, true, false, Some("-"), "12 0 -\n"),
+];
+
+#[test]
+fn chosen_counts_make_a_line(rt: HostRuntime) -> Result<(), Fail> {
+    for (lines, words, bytes, name, wanted) in &LINES {
+        let chosen = Chosen {
+            lines: *lines,
+            words: *words,
+            bytes: *bytes,
+        };
+        let counts = Counts {
+            lines: 12,
+            words: 0,
+            bytes: 345,
+        };
+        let mut out = Vec::new(rt.alloc());
+        write_counts(&mut out, &chosen, &counts, name.map(|name| name.as_bytes()))?;
+        assert_eq!(rt; out.as_slice(), wanted.as_bytes(), "{wanted:?}");
+    }
+    Ok(())
+}
