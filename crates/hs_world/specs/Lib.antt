@@ -6,6 +6,7 @@ pub mod Paths
 pub mod Reads
 pub mod Seen
 pub mod Shells
+pub mod Sizes
 pub mod Tables
 pub mod Vars
 pub mod World

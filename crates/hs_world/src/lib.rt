@@ -27,6 +27,7 @@ pub use record::{Effects, Reads};
 pub use reply::{Environment, Found, Reply, Request};
 pub use route::{Route, RouteTable, Routes};
 pub use shell::Depth;
+pub use tables::{emit_below, end_below};
 pub use tree::{Tree, TreeErr};
 pub use var::Var;
 pub use world::{Limit, Limits, World, WorldErr};

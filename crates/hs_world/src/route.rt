@@ -179,6 +179,14 @@ impl Routes {
         Routes { items }
     }
 
+    /// How many routes: nine.
+    pub fn len(&self) -> usize
+        ensures len { result ≡ length self.now }
+        ensures nine { length self.now ≡ 9 }
+    {
+        self.items.len()
+    }
+
     /// Whether each `Same` names a descriptor from 1 to 9.
     pub fn is_table(&self) -> bool
         ensures { result ≡ is_table self.now }

@@ -6,6 +6,7 @@ ghost use Rattle.std.specs.FinMap as map;
 ghost use Rattle.hs_world.specs.Files.{appended, bytes_of, entry_at, entry_size, extended, extended_at, is_absent, is_dir, is_empty_list, is_other, is_over, is_over_with, is_removable, kind_of, most_bytes, most_entries, names_in, size_in, sum_of, tree_bytes};
 ghost use Rattle.hs_world.specs.Names.{path_cmp};
 ghost use Rattle.hs_world.specs.Paths.{parent};
+ghost use Rattle.hs_world.specs.Sizes.{capped, entries_size, kept_size, path_bytes, path_size};
 ghost use Rattle.hs_world.specs.declared.entry.Entry as entry;
 ghost use Rattle.std.specs.Map.{keys_of};
 ghost use Rattle.std.specs.List.Sorted.{IsStrictlySortedBy};
@@ -85,6 +86,13 @@ impl Tree {
         ensures small { result < 2 ^ 63 }
     {
         self.entries.len()
+    }
+
+    /// How much the entries take where they are kept: 16 for each path and each text, and their bytes. It takes O(n) steps.
+    pub fn kept_size(&self) -> u128
+        ensures { result ≡ capped (entries_size (map.entries self.now)) }
+    {
+        kept_total(&self.entries)
     }
 
     fn found(&self, path: &[Text]) -> Option<&Entry>
@@ -335,6 +343,38 @@ fn total(entries: &BTreeMap<PathName, Entry>) -> u64
         sum = sum.saturating_add(size_of(entry));
     }
     sum
+}
+
+/// How much entries take where they are kept, or 2^128 - 1 where that is more.
+fn kept_total(entries: &BTreeMap<PathName, Entry>) -> u128
+    ensures size { result ≡ capped (entries_size entries.now.entries) }
+    ensures ordered { IsStrictlySortedBy path_cmp (keys_of entries.now.entries) }
+{
+    let mut sum = 0u128;
+    for (path, entry) in entries {
+        sum = sum.saturating_add(kept_size(path, entry));
+    }
+    sum
+}
+
+fn kept_size(path: &PathName, entry: &Entry) -> u128
+    ensures { result ≡ capped (path_size path.now + kept_size entry.now) }
+{
+    let names = 16u128.saturating_add(path_bytes(path.names()));
+    match entry {
+        Entry::File(text) => names.saturating_add(16u128.saturating_add(text.len() as u128)),
+        _ => names,
+    }
+}
+
+fn path_bytes(names: &[Text]) -> u128
+    ensures { result ≡ capped (path_bytes names.now) }
+{
+    let mut size: u128 = 0;
+    for name in names {
+        size = size.saturating_add(name.len() as u128);
+    }
+    size
 }
 
 /// The bytes of the files after a change, from those before it, where an entry of `old` bytes went and one of `new` came.

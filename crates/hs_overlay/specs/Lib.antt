@@ -1,0 +1,14 @@
+pub mod Ends
+pub mod Files
+pub mod Inputs
+pub mod Marks
+pub mod Names
+pub mod Over
+pub mod Overlay
+pub mod Paths
+pub mod Routing
+pub mod Scope
+pub mod Shells
+pub mod Shown
+pub mod Sizes
+pub mod Stacks
