@@ -146,42 +146,6 @@ fn params_set(alloc: Global) -> Result<Row, AllocError> {
     })
 }
 
-fn variable_after_shell(alloc: Global) -> Result<Row, AllocError> {
-    let set = set_var(alloc, "x", "1")?;
-    Ok(Row {
-        effects: vec![in alloc; Effect::PushShell, set, Effect::PopShell]?,
-        loc: Loc::Var(text(alloc, "x")?),
-        value: Value::Var(None),
-    })
-}
-
-fn function_after_shell(alloc: Global) -> Result<Row, AllocError> {
-    let set = Effect::SetFunc(text(alloc, "f")?, 3);
-    Ok(Row {
-        effects: vec![in alloc; Effect::PushShell, set, Effect::PopShell]?,
-        loc: Loc::Func(text(alloc, "f")?),
-        value: Value::Func(None),
-    })
-}
-
-fn params_after_shell(alloc: Global) -> Result<Row, AllocError> {
-    let set = Effect::SetParams(list(alloc, &["a"])?);
-    Ok(Row {
-        effects: vec![in alloc; Effect::PushShell, set, Effect::PopShell]?,
-        loc: Loc::Params,
-        value: Value::Params(Text::new(alloc), TextList::new(alloc)),
-    })
-}
-
-#[test]
-fn names_come_back(rt: HostRuntime) -> Result<(), Fail> {
-    let alloc = rt.alloc();
-    assert!(rt; holds(alloc, &variable_after_shell(alloc)?));
-    assert!(rt; holds(alloc, &function_after_shell(alloc)?));
-    assert!(rt; holds(alloc, &params_after_shell(alloc)?));
-    Ok(())
-}
-
 #[test]
 fn names_are_read_back(rt: HostRuntime) -> Result<(), Fail> {
     let alloc = rt.alloc();
@@ -238,32 +202,6 @@ fn descriptor_opened(alloc: Global) -> Result<Row, AllocError> {
         loc: Loc::Kept(3),
         value: Value::Kept(Some(text(alloc, "a")?)),
     })
-}
-
-fn folder_after_shell(alloc: Global) -> Result<Row, AllocError> {
-    let set = Effect::SetCwd(path(alloc, "/")?);
-    Ok(Row {
-        effects: vec![in alloc; Effect::PushShell, set, Effect::PopShell]?,
-        loc: Loc::Cwd,
-        value: Value::Cwd(PathName::root(alloc)),
-    })
-}
-
-fn descriptor_after_shell(alloc: Global) -> Result<Row, AllocError> {
-    let opened = Effect::SetKept(3, Some(text(alloc, "a")?));
-    Ok(Row {
-        effects: vec![in alloc; Effect::PushShell, opened, Effect::PopShell]?,
-        loc: Loc::Kept(3),
-        value: Value::Kept(None),
-    })
-}
-
-#[test]
-fn what_a_shell_sets_comes_back(rt: HostRuntime) -> Result<(), Fail> {
-    let alloc = rt.alloc();
-    assert!(rt; holds(alloc, &folder_after_shell(alloc)?));
-    assert!(rt; holds(alloc, &descriptor_after_shell(alloc)?));
-    Ok(())
 }
 
 #[test]
@@ -361,39 +299,6 @@ fn files_left(alloc: Global) -> Result<Row, AllocError> {
         loc: Loc::Kind(path(alloc, "/f")?),
         value: Value::Kind(Kind::Absent),
     })
-}
-
-fn file_made(alloc: Global) -> Result<Row, AllocError> {
-    Ok(Row {
-        effects: put_all(alloc, &["/f"])?,
-        loc: Loc::Kind(path(alloc, "/f")?),
-        value: Value::Kind(Kind::File),
-    })
-}
-
-fn folder_is_listed(alloc: Global) -> Result<Row, AllocError> {
-    Ok(Row {
-        effects: vec![in alloc; Effect::MakeDir(path(alloc, "/d")?)]?,
-        loc: Loc::Names(path(alloc, "/")?),
-        value: Value::Names(Some(list(alloc, &["d"])?)),
-    })
-}
-
-fn bytes_left(alloc: Global) -> Result<Row, AllocError> {
-    Ok(Row {
-        effects: vec![in alloc; replied(alloc)?]?,
-        loc: Loc::Bytes(path(alloc, "/o")?),
-        value: Value::Bytes(Some(text(alloc, "k")?)),
-    })
-}
-
-#[test]
-fn entries_are_read_back(rt: HostRuntime) -> Result<(), Fail> {
-    let alloc = rt.alloc();
-    assert!(rt; holds(alloc, &file_made(alloc)?));
-    assert!(rt; holds(alloc, &folder_is_listed(alloc)?));
-    assert!(rt; holds(alloc, &bytes_left(alloc)?));
-    Ok(())
 }
 
 #[test]
@@ -512,32 +417,6 @@ fn ends_followed(alloc: Global) -> Result<Row, AllocError> {
         loc: Loc::Ends,
         value: Value::Ends(one_to(alloc, Route::Stream(Fd::Two))?),
     })
-}
-
-fn routes_after_shell(alloc: Global) -> Result<Row, AllocError> {
-    let set = Effect::SetRoutes(one_to(alloc, Route::Null)?);
-    Ok(Row {
-        effects: vec![in alloc; Effect::PushShell, set, Effect::PopShell]?,
-        loc: Loc::Ends,
-        value: Value::Ends(Routes::first(alloc)?),
-    })
-}
-
-fn captured_no_more(alloc: Global) -> Result<Row, AllocError> {
-    let table = one_to(alloc, Route::Capture)?;
-    Ok(Row {
-        effects: vec![in alloc; Effect::PushRoutes(table), Effect::PopRoutes]?,
-        loc: Loc::Captured,
-        value: Value::Captured(Text::new(alloc)),
-    })
-}
-
-#[test]
-fn routes_come_back(rt: HostRuntime) -> Result<(), Fail> {
-    let alloc = rt.alloc();
-    assert!(rt; holds(alloc, &routes_after_shell(alloc)?));
-    assert!(rt; holds(alloc, &captured_no_more(alloc)?));
-    Ok(())
 }
 
 #[test]
