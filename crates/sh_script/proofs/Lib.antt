@@ -1,0 +1,12 @@
+pub mod Bad
+pub mod Completes
+pub mod Counts
+pub mod Deeper
+pub mod Fits
+pub mod Lines
+pub mod Only
+pub mod Parsed
+pub mod Stands
+pub mod Text
+pub mod Told
+pub mod Turns

@@ -1,0 +1,6 @@
+pub mod Answers
+pub mod FirstBad
+pub mod Longest
+pub mod Openings
+pub mod Readings
+pub mod Turns
