@@ -3,7 +3,7 @@ use Rattle.std.proofs.Common.{◌≡◌, ◌≢◌, ℕ, ◌-◌, zero, suc, Lis
 use Rattle.std.specs.Prelude.{slice_get}
 use Rattle.hs_world.specs.declared.effect.Effect.{Effect}
 use Rattle.hs_world.specs.World.{WorldData, Applied}
-use Rattle.sh_parser.specs.declared.tree.Script.{Script}
+use Rattle.sh_syntax.specs.declared.tree.Script.{Script}
 use Rattle.sh_leaf.specs.Do.{Did, Do, Gives, Status}
 use Rattle.sh_leaf.proofs.Adds.{leaf-status}
 use Rattle.hs_main.specs.declared.commit.Stop.{Stop}

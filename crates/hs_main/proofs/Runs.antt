@@ -4,8 +4,8 @@ use Rattle.std.proofs.lemmas.Bool.Decides.{nat_tests}
 use Rattle.hs_world.specs.declared.effect.Effect.{Effect}
 use Rattle.hs_world.specs.declared.world.Limit.{Limit}
 use Rattle.hs_world.specs.World.{WorldData, Applied}
-use Rattle.sh_parser.specs.declared.tree.AndOr.{AndOr}
-use Rattle.sh_parser.specs.declared.tree.Script.{Script}
+use Rattle.sh_syntax.specs.declared.tree.AndOr.{AndOr}
+use Rattle.sh_syntax.specs.declared.tree.Script.{Script}
 use Rattle.sh_leaf.specs.declared.spent.SpentKind.{SpentKind}
 use Rattle.sh_leaf.specs.Do.{Status, Came, Gives, Stops, Ran_out, Did, Do}
 use Rattle.sh_leaf.specs.Run.{State, Got, Gave, Ends, onward, make, came_to, absorb, state_of, run_leaf, run_items, run_list, list_at, begin, Final, ended, fitting, misfit, kind_of, cut_ending, Row, cut, Serial}
@@ -250,6 +250,7 @@ pub plain-complete : (out err : Type 0) (script : Script) (w : WorldData) (turns
     Runs out err script w turns s t ends report → IsComplete out err (Serial script w turns) ends
 plain-complete out err script w turns s t (ending.Done status) report r wanted e no-out no-err =
     let two : run.Done status ≡ run.Done wanted = r.0 ∙ e in let same : status ≡ wanted = cc in inl (ap ending.Done same)
+plain-complete out err script w turns s t (ending.Syntax line fault) report r wanted e no-out no-err = absurd r
 plain-complete out err script w turns s t ending.Unbuilt report r wanted e no-out no-err = absurd r
 plain-complete out err script w turns s t (ending.Spent kind) report r wanted e no-out no-err =
     let two : run.Stopped (Ran_out kind) ≡ run.Done wanted = r.0 ∙ e in absurd cc

@@ -1,5 +1,5 @@
 -- The whole program.
-use Rattle.std.proofs.Common.{◌≡◌, ℕ, List, [], ◌∷◌, ◌++◌, Option, Result, Ok, Err, OnOk, OnErr, inl, inr, refl, sym, ap, subst, ◌∙◌, ◌≤◌, ◌<◌, length, get_or, arith}
+use Rattle.std.proofs.Common.{◌≡◌, ℕ, List, [], ◌∷◌, ◌++◌, Option, Some, None, Bool, true, false, T, Result, Ok, Err, OnOk, OnErr, inl, inr, refl, sym, ap, subst, ◌∙◌, ◌≤◌, ◌<◌, ◌⊎◌, zero, suc, length, get_or, arith}
 use Rattle.hs_outside.specs.Streams.{appended, IsCut}
 use Rattle.hs_outside.specs.declared.outside.Failed.{Failed}
 use Rattle.hs_main.specs.declared.ending.Ending.{Ending}
@@ -9,56 +9,106 @@ use Rattle.hs_main.specs.Commit.{Streams, IsFault}
 use Rattle.hs_main.specs.Plain.{Runs, IsComplete}
 use Rattle.hs_main.proofs.Runs.{plain-complete}
 use Rattle.sh_leaf.specs.Run.{Serial}
-use Rattle.hs_main.specs.Top.{Asks, IsAsked, start, default_turns, IsLine, IsRun, RunsWords, IsCompleteFor}
+use Rattle.sh_leaf.specs.Built.{is_built}
+use Rattle.sh_syntax.specs.declared.fault.Fault.{Fault}
+use Rattle.hs_main.specs.Ending.{IsTold}
+use Rattle.hs_main.specs.Top.{Asks, start, default_turns, IsRefused, IsUnbuilt, Parsed, IsScriptOf, Finds, IsEnded, AskNothing, IsRun, RunsWords, IsCompleteFor, no_report}
 use Rattle.hs_world.specs.World.{WorldData, Applied}
-use Rattle.sh_parser.specs.declared.tree.Script.{Script}
-use Rattle.sh_parser.specs.Spells.{Spells, IsScriptOf, IsBuilt, longest}
+use Rattle.sh_syntax.specs.declared.tree.Script.{Script}
+use Rattle.sh_grammar.specs.Spells.{Spells}
+use Rattle.sh_script.specs.Answers.{Answers, IsBad, too_long}
+use Rattle.sh_script.specs.Longest.{longest}
+use Rattle.sh_script.specs.declared.error.ParseErr.{ParseErr}
+use Rattle.sh_script.specs.declared.error.ParseErr.TheVariants as err
 use Rattle.std.specs.Prelude.{codes}
 
--- a run never ends as unbuilt
+-- a run never ends as unbuilt, or by a syntax error
 pub run-ran : (out err : Type 0) (words : List (List ℕ)) (s t : Streams) (ends : Ending) (report : Report) → IsRun out err words s t ends report → RunsWords out err words s t ends report
 run-ran out err words s t (ending.Done status) report r = r
+run-ran out err words s t (ending.Syntax line fault) report r = absurd r.runs
 run-ran out err words s t ending.Unbuilt report r = absurd r.runs
 run-ran out err words s t ending.OutFault report r = r
 run-ran out err words s t (ending.Spent kind) report r = r
 run-ran out err words s t ending.NoMemory report r = inr r
 
 pub run-of : (out err : Type 0) (words : List (List ℕ)) (text text' : List ℕ) (s t : Streams) (ends : Ending) (report : Report) (script script' : Script) (w : WorldData) →
-    Asks words text → text' ≡ text → (length text' ≤ longest) × IsScriptOf script text' → script' ≡ script → w ≡ start → Runs out err script' w default_turns s t ends report →
+    Asks words text → text' ≡ text → IsScriptOf script text' × (is_built script ≡ true) → script' ≡ script → w ≡ start → Runs out err script' w default_turns s t ends report →
     RunsWords out err words s t ends report
-run-of out err words text text' s t ends report script script' w asks same (short, spelled) is from runs = run-ran out err words s t ends report (record {
+run-of out err words text text' s t ends report script script' w asks same (found, built) is from runs = run-ran out err words s t ends report (record {
   text = text';
   asks = subst (λ (x : List ℕ). Asks words x) (sym same) asks;
-  short = short;
   script = script;
-  spelled = spelled;
+  found = found;
+  built = built;
   runs = subst (λ (v : WorldData). Runs out err script v default_turns s t ends report) from (subst (λ (x : Script). Runs out err x w default_turns s t ends report) is runs);
 })
 
+-- ---- reading a text
+
+short-of : (a n : ℕ) → (n < a → ⊥) → a ≤ n
+short-of a n h = omega (arith, h)
+
+one-up : (a n : ℕ) → (n < a) ⊎ (a ≤ n) → (suc n < suc a) ⊎ (suc a ≤ suc n)
+one-up a n (inl h) = inl (omega (arith, h))
+one-up a n (inr h) = inr (omega (arith, h))
+
+long-or_not : (a n : ℕ) → (n < a) ⊎ (a ≤ n)
+long-or_not zero n = inr (omega arith)
+long-or_not (suc a) zero = inl (omega arith)
+long-or_not (suc a) (suc n) = one-up a n (long-or_not a n)
+
+refused-of : (line : ℕ) (f : Fault) (text : List ℕ) → (longest < length text → Err (err.Syntax line f) ≡ too_long) → (length text ≤ longest → IsBad f line text) →
+    (longest < length text) ⊎ (length text ≤ longest) → IsRefused text line f
+refused-of line f text long answers (inl l) = let two : Err (err.Syntax line f) ≡ too_long = long l in inl (l, cc, cc)
+refused-of line f text long answers (inr s) = inr (s, answers s)
+
+pub parsed-of : (r : Result Script ParseErr) (text : List ℕ) → (longest < length text → r ≡ too_long) → (length text ≤ longest → Answers r text) → Parsed r text
+parsed-of (Ok script) text long answers =
+    let short = short-of (length text) longest (λ l. let two : Ok script ≡ too_long = long l in absurd cc) in record { short = short; is = answers short }
+parsed-of (Err (err.Syntax line f)) text long answers = refused-of line f text long answers (long-or_not (length text) longest)
+parsed-of (Err err.NoMemory) text long answers = tt
+
+pub unbuilt_of : (text : List ℕ) (script : Script) → IsScriptOf script text → is_built script ≡ false → IsUnbuilt text
+unbuilt_of text script found unbuilt = record { script = script; found = found; unbuilt = unbuilt }
+
+-- a text that ends without a run
+pub unrun-of : (out err : Type 0) (words : List (List ℕ)) (text text' : List ℕ) (s : Streams) (ends : Ending) →
+    Asks words text → text' ≡ text → Finds (Err ends) text' → RunsWords out err words s s ends no_report
+unrun-of out err words text text' s (ending.Done status) asks same finds = absurd finds
+unrun-of out err words text text' s (ending.Syntax line fault) asks same finds =
+    (record { text = text'; asks = subst (λ (x : List ℕ). Asks words x) (sym same) asks; finds = finds }, record { report_is = refl; streams = refl })
+unrun-of out err words text text' s ending.Unbuilt asks same finds =
+    (inr (record { text = text'; asks = subst (λ (x : List ℕ). Asks words x) (sym same) asks; finds = finds }), record { report_is = refl; streams = refl })
+unrun-of out err words text text' s ending.OutFault asks same finds = absurd finds
+unrun-of out err words text text' s (ending.Spent kind) asks same finds = absurd finds
+unrun-of out err words text text' s ending.NoMemory asks same finds = inl (record { report_is = refl; streams = refl })
+
 one-text : (a b c : List ℕ) → a ∷ b ∷ [] ≡ a ∷ c ∷ [] → b ≡ c
 one-text a b c e = cc
-
--- no script of the words' text is built
-pub no-script : (words : List (List ℕ)) (text text' : List ℕ) → Asks words text → text' ≡ text → (IsBuilt text' → ⊥) → IsAsked words → ⊥
-no-script words text text' asks same none asked =
-    let e : codes "-c" ∷ text ∷ [] ≡ codes "-c" ∷ asked.text ∷ [] = sym asks ∙ asked.asks in
-    let f : asked.text ≡ text' = sym (one-text (codes "-c") text asked.text e) ∙ sym same in
-    none (subst IsBuilt f asked.built)
 
 append-nil : (xs : List ℕ) → xs ++ [] ≡ xs
 append-nil [] = refl
 append-nil (x ∷ xs) = ap (λ (ys : List ℕ). x ∷ ys) (append-nil xs)
 
-pub line-tried : (line : List ℕ) (out old new : Option (List ℕ)) (result : Result (Unit {0}) Failed) → OnOk result (new ≡ appended old line) → OnErr result (IsCut old new line) →
-    IsLine line (record { out = out; err = old }) (record { out = out; err = new })
-line-tried line out old new (Ok u) ok err = record { front = line; rest = []; whole = sym (append-nil line); out = refl; err = ok }
-line-tried line out old new (Err e) ok err = record { front = err.front; rest = err.rest; whole = err.whole; out = refl; err = err.went }
+-- a line that was sent
+pub line-sent : (line : List ℕ) (old new : Option (List ℕ)) (result : Result (Unit {0}) Failed) → OnOk result (new ≡ appended old line) → OnErr result (IsCut old new line) → IsTold line old new
+line-sent line old new (Ok u) ok err = record { front = line; rest = []; whole = sym (append-nil line); went = ok }
+line-sent line old new (Err e) ok err = record { front = err.front; rest = err.rest; whole = err.whole; went = err.went }
+
+nothing-appended : (old : Option (List ℕ)) → old ≡ appended old []
+nothing-appended None = refl
+nothing-appended (Some held) = ap Some (sym (append-nil held))
+
+-- a line for which there was no memory
+pub line-unsent : (line : List ℕ) (old : Option (List ℕ)) → IsTold line old old
+line-unsent line old = record { front = []; rest = line; whole = refl; went = nothing-appended old }
 
 -- ---- a later count of faults
 
 runs-later : (out err err' : Type 0) (script : Script) (w : WorldData) (turns : ℕ) (s t : Streams) (ends : Ending) (report : Report) → (err → err') →
     Runs out err script w turns s t ends report → Runs out err' script w turns s t ends report
 runs-later out err err' script w turns s t (ending.Done status) report f r = r
+runs-later out err err' script w turns s t (ending.Syntax line fault) report f r = r
 runs-later out err err' script w turns s t ending.Unbuilt report f r = r
 runs-later out err err' script w turns s t (ending.Spent kind) report f r = r
 runs-later out err err' script w turns s t ending.NoMemory report f r = r
@@ -74,15 +124,16 @@ run-later : (out err err' : Type 0) (words : List (List ℕ)) (s t : Streams) (e
 run-later out err err' words s t ends report f r = record {
   text = r.text;
   asks = r.asks;
-  short = r.short;
   script = r.script;
-  spelled = r.spelled;
+  found = r.found;
+  built = r.built;
   runs = runs-later out err err' r.script start default_turns s t ends report f r.runs;
 }
 
 pub words-later : (out err err' : Type 0) (words : List (List ℕ)) (s t : Streams) (ends : Ending) (report : Report) → (err → err') →
     RunsWords out err words s t ends report → RunsWords out err' words s t ends report
 words-later out err err' words s t (ending.Done status) report f r = run-later out err err' words s t (ending.Done status) report f r
+words-later out err err' words s t (ending.Syntax line fault) report f r = r
 words-later out err err' words s t ending.Unbuilt report f r = r
 words-later out err err' words s t (ending.Spent kind) report f r = run-later out err err' words s t (ending.Spent kind) report f r
 words-later out err err' words s t ending.OutFault report f r = run-later out err err' words s t ending.OutFault report f r
@@ -99,18 +150,28 @@ two-words (x ∷ y ∷ z ∷ rest) a b least most is-a is-b = absurd (omega arit
 
 -- ---- completeness
 
+-- the words hand over one text
+one-asked : (words : List (List ℕ)) (a b : List ℕ) → Asks words a → Asks words b → a ≡ b
+one-asked words a b asks asks' = one-text (codes "-c") a b (sym asks ∙ asks')
+
 run-complete : (out err : Type 0) (words : List (List ℕ)) (s t : Streams) (ends : Ending) (report : Report) → IsRun out err words s t ends report → IsCompleteFor out err words ends
-run-complete out err words s t ends report r text script asks short spelled =
-    let e : codes "-c" ∷ text ∷ [] ≡ codes "-c" ∷ r.text ∷ [] = sym asks ∙ r.asks in
-    let same-text : text ≡ r.text = one-text (codes "-c") text r.text e in
-    let same : r.script ≡ script = spelled.only r.script (subst (λ (x : List ℕ). Spells r.script x) (sym same-text) r.spelled.spelled) in
+run-complete out err words s t ends report r text script asks found built =
+    let same : r.script ≡ script = found.is.only r.script (subst (λ (x : List ℕ). Spells r.script x) (sym (one-asked words text r.text asks r.asks)) r.found.is.spelled) in
     subst (λ (x : Script). IsComplete out err (Serial x start default_turns) ends) same (plain-complete out err r.script start default_turns s t ends report r.runs)
+
+refused-spells_none : (text : List ℕ) (line : ℕ) (fault : Fault) (script : Script) → IsRefused text line fault → IsScriptOf script text → ⊥
+refused-spells_none text line fault script (inl (long, e, f)) found = absurd (omega (arith, long, found.short))
+refused-spells_none text line fault script (inr (short, bad)) found = bad.none script found.is.spelled
 
 pub words-complete : (out err : Type 0) (words : List (List ℕ)) (s t : Streams) (ends : Ending) (report : Report) → RunsWords out err words s t ends report → IsCompleteFor out err words ends
 words-complete out err words s t (ending.Done status) report r = run-complete out err words s t (ending.Done status) report r
 words-complete out err words s t (ending.Spent kind) report r = run-complete out err words s t (ending.Spent kind) report r
 words-complete out err words s t ending.OutFault report r = run-complete out err words s t ending.OutFault report r
-words-complete out err words s t ending.Unbuilt report r =
-    λ text script asks short spelled.
-    absurd (r.0 (record { text = text; asks = asks; built = record { short = short; script = script; spelled = spelled.spelled } }))
-words-complete out err words s t ending.NoMemory report r = λ text script asks short spelled status e no-out no-err. inr refl
+words-complete out err words s t (ending.Syntax line fault) report (e, u) = λ text script asks found built.
+    absurd (refused-spells_none text line fault script (subst (λ (x : List ℕ). IsRefused x line fault) (one-asked words e.text text e.asks asks) e.finds) found)
+words-complete out err words s t ending.Unbuilt report (inl none, u) = λ text script asks found built. absurd (none text asks)
+words-complete out err words s t ending.Unbuilt report (inr e, none) = λ text script asks found built.
+    let u : IsUnbuilt text = subst IsUnbuilt (one-asked words e.text text e.asks asks) e.finds in
+    let same : u.script ≡ script = found.is.only u.script u.found.is.spelled in
+    absurd (subst T (sym (ap is_built same) ∙ u.unbuilt) (subst T (sym built) tt))
+words-complete out err words s t ending.NoMemory report r = λ text script asks found built status e no-out no-err. inr refl

@@ -1,12 +1,14 @@
 -- The statuses of a run, and the lines that say how it ended.
-use Rattle.std.specs.Prelude.{ℕ, List, [], ◌∷◌, ◌++◌, codes}
+use Rattle.std.specs.Prelude.{◌≡◌, ℕ, List, [], ◌∷◌, ◌++◌, Option, codes, decimal}
+use Rattle.hs_outside.specs.Streams.{appended}
 use Rattle.sh_leaf.specs.declared.spent.SpentKind.{SpentKind}
 use Rattle.sh_leaf.specs.declared.spent.SpentKind.TheVariants.{Turns, Bytes, Tree}
 use Rattle.hs_main.specs.declared.ending.Ending.{Ending}
-use Rattle.hs_main.specs.declared.ending.Ending.TheVariants.{Done, Unbuilt, OutFault, Spent, NoMemory}
+use Rattle.hs_main.specs.declared.ending.Ending.TheVariants.{Done, Syntax, Unbuilt, OutFault, Spent, NoMemory}
 
 abbrev pub status_of : Ending → ℕ
 status_of (Done status) = status
+status_of (Syntax line fault) = 2
 status_of OutFault = 121
 status_of Unbuilt = 123
 status_of (Spent kind) = 124
@@ -17,9 +19,20 @@ kind_name Turns = codes "turns"
 kind_name Bytes = codes "bytes"
 kind_name Tree = codes "tree"
 
+abbrev pub syntax_line_of : ℕ → List ℕ
+syntax_line_of line = codes "hs: line " ++ decimal line ++ codes ": syntax error\n"
+
 abbrev pub line_of : Ending → List ℕ
 line_of (Done status) = []
+line_of (Syntax line fault) = syntax_line_of line
 line_of OutFault = codes "hs: output failed" ++ 10 ∷ []
 line_of Unbuilt = codes "hs: not built yet" ++ 10 ∷ []
 line_of (Spent kind) = codes "hs: budget spent: " ++ kind_name kind ++ 10 ∷ []
 line_of NoMemory = codes "hs: out of memory" ++ 10 ∷ []
+
+-- Of the line a front went out: all of it, unless its write failed or there was no memory for it.
+pub record IsTold (line : List ℕ) (old new : Option (List ℕ)) : Type 0 where
+  pub front : List ℕ
+  pub rest : List ℕ
+  pub whole : line ≡ front ++ rest
+  pub went : new ≡ appended old front

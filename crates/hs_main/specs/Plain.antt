@@ -2,7 +2,7 @@
 use Rattle.std.specs.Prelude.{◌≡◌, ◌⊎◌, ℕ, ◌-◌, List, Result, Ok, Err}
 use Rattle.hs_world.specs.declared.effect.Effect.{Effect}
 use Rattle.hs_world.specs.World.{WorldData, Applied}
-use Rattle.sh_parser.specs.declared.tree.Script.{Script}
+use Rattle.sh_syntax.specs.declared.tree.Script.{Script}
 use Rattle.sh_leaf.specs.declared.spent.SpentKind.{SpentKind}
 use Rattle.sh_leaf.specs.Do.{Status, Ran_out, Gives, Stops, Do}
 use Rattle.sh_leaf.specs.Run.{State, Got, Gave, Ends, state_of, Final, whole_run, Row, Serial}
@@ -42,6 +42,7 @@ Runs out err script w turns old new ending.OutFault report =
     (done : List Effect) × IsStopped done (Serial script w turns) w report (λ w'. IsFault out err done w w' old new)
 Runs out err script w turns old new ending.NoMemory report =
     (done : List Effect) × IsStopped done (Serial script w turns) w report (λ w'. IsWant done w w' old new)
+Runs out err script w turns old new (ending.Syntax line fault) report = ⊥
 Runs out err script w turns old new ending.Unbuilt report = ⊥
 
 -- Where the serial meaning runs to the script's end and no count of faults rose, so does the run, if memory suffices.

@@ -1,14 +1,20 @@
 -- What the whole program does.
-use Rattle.std.specs.Prelude.{◌≡◌, ◌⊎◌, ℕ, ◌≤◌, List, [], ◌∷◌, ◌++◌, length, codes}
+use Rattle.std.specs.Prelude.{◌≡◌, ◌⊎◌, ℕ, ◌≤◌, List, [], ◌∷◌, ◌++◌, ◌<◌, false, true, Result, Ok, Err, length, codes}
 use Rattle.std.specs.FinMap.{empty}
 use Rattle.hs_world.specs.World.{WorldData, new_world}
 use Rattle.hs_outside.specs.Streams.{appended}
-use Rattle.sh_parser.specs.declared.tree.Script.{Script}
-use Rattle.sh_parser.specs.Spells.{IsScriptOf, IsBuilt, longest}
+use Rattle.sh_syntax.specs.declared.tree.Script.{Script}
+use Rattle.sh_script.specs.Answers.{IsScript, IsBad}
+use Rattle.sh_script.specs.Longest.{longest}
+use Rattle.sh_script.specs.declared.error.ParseErr.{ParseErr}
+use Rattle.sh_script.specs.declared.error.ParseErr.TheVariants as err
+use Rattle.sh_syntax.specs.declared.fault.Fault.{Fault}
+use Rattle.sh_syntax.specs.declared.fault.Fault.TheVariants.{TooLong}
+use Rattle.sh_leaf.specs.Built.{is_built}
 use Rattle.hs_main.specs.declared.ending.Ending.{Ending}
 use Rattle.hs_main.specs.declared.ending.Ending.TheVariants as ending
 use Rattle.hs_main.specs.declared.ending.Report.{Report}
-use Rattle.hs_main.specs.Ending.{line_of}
+use Rattle.hs_main.specs.Ending.{line_of, IsTold}
 use Rattle.hs_main.specs.Commit.{Streams}
 use Rattle.sh_leaf.specs.Run.{Serial}
 use Rattle.hs_main.specs.Plain.{Runs, IsComplete}
@@ -18,11 +24,34 @@ use Rattle.hs_main.specs.Plain.{Runs, IsComplete}
 abbrev pub Asks : List (List ℕ) → List ℕ → Type 0
 Asks words text = words ≡ codes "-c" ∷ text ∷ []
 
--- The words hand over a script of the forms that are built.
-pub record IsAsked (words : List (List ℕ)) : Type 0 where
-  pub text : List ℕ
-  pub asks : Asks words text
-  pub built : IsBuilt text
+-- the one script of a text, which is short enough
+pub record IsScriptOf (script : Script) (text : List ℕ) : Type 0 where
+  pub short : length text ≤ longest
+  pub is : IsScript script text
+
+-- The text is longer than a script may be, or it has a first bad token, with this fault on this line, and spells no script.
+abbrev pub IsRefused : List ℕ → ℕ → Fault → Type 0
+IsRefused text line fault = ((longest < length text) × (fault ≡ TooLong) × (line ≡ 1)) ⊎ ((length text ≤ longest) × IsBad fault line text)
+
+-- What reading a text comes to.
+abbrev pub Parsed : Result Script ParseErr → List ℕ → Type 0
+Parsed (Ok script) text = IsScriptOf script text
+Parsed (Err (err.Syntax line fault)) text = IsRefused text line fault
+Parsed (Err err.NoMemory) text = Unit {0}
+
+-- The text's script is not built.
+pub record IsUnbuilt (text : List ℕ) : Type 0 where
+  pub script : Script
+  pub found : IsScriptOf script text
+  pub unbuilt : is_built script ≡ false
+
+-- What a text comes to: the script, which is built, or an ending without a run.
+abbrev pub Finds : Result Script Ending → List ℕ → Type 0
+Finds (Ok script) text = IsScriptOf script text × (is_built script ≡ true)
+Finds (Err (ending.Syntax line fault)) text = IsRefused text line fault
+Finds (Err ending.Unbuilt) text = IsUnbuilt text
+Finds (Err ending.NoMemory) text = Unit {0}
+Finds (Err _) text = ⊥
 
 -- ---- where a run begins
 
@@ -37,13 +66,10 @@ no_report = record { head = 0; turns = 0; count = 0 }
 
 -- ---- how it ends
 
--- Of the line a front went out on standard error: all of it, unless the write failed.
+-- Of the line a front went out on standard error.
 pub record IsLine (line : List ℕ) (old new : Streams) : Type 0 where
-  pub front : List ℕ
-  pub rest : List ℕ
-  pub whole : line ≡ front ++ rest
   pub out : new.out ≡ old.out
-  pub err : new.err ≡ appended old.err front
+  pub told : IsTold line old.err new.err
 
 pub record IsUnrun (report : Report) (old new : Streams) : Type 0 where
   pub report_is : report ≡ no_report
@@ -53,14 +79,25 @@ pub record IsUnrun (report : Report) (old new : Streams) : Type 0 where
 pub record IsRun (out err : Type 0) (words : List (List ℕ)) (old new : Streams) (ends : Ending) (report : Report) : Type 0 where
   pub text : List ℕ
   pub asks : Asks words text
-  pub short : length text ≤ longest
   pub script : Script
-  pub spelled : IsScriptOf script text
+  pub found : IsScriptOf script text
+  pub built : is_built script ≡ true
   pub runs : Runs out err script start default_turns old new ends report
 
--- What the words come to: unbuilt exactly where they hand over no script that is built, or a run.
+-- The words hand over a text, which ends without a run.
+pub record IsEnded (words : List (List ℕ)) (ends : Ending) : Type 0 where
+  pub text : List ℕ
+  pub asks : Asks words text
+  pub finds : Finds (Err ends) text
+
+-- the words hand over no text
+abbrev pub AskNothing : List (List ℕ) → Type 0
+AskNothing words = (text : List ℕ) → Asks words text → ⊥
+
+-- What the words come to: they hand over no text, or one that ends without a run, or a script that runs.
 abbrev pub RunsWords : (out err : Type 0) → List (List ℕ) → Streams → Streams → Ending → Report → Type 0
-RunsWords out err words old new ending.Unbuilt report = (IsAsked words → ⊥) × IsUnrun report old new
+RunsWords out err words old new ending.Unbuilt report = (AskNothing words ⊎ IsEnded words ending.Unbuilt) × IsUnrun report old new
+RunsWords out err words old new (ending.Syntax line fault) report = IsEnded words (ending.Syntax line fault) × IsUnrun report old new
 RunsWords out err words old new ending.NoMemory report = IsUnrun report old new ⊎ IsRun out err words old new ending.NoMemory report
 RunsWords out err words old new ends report = IsRun out err words old new ends report
 
@@ -70,7 +107,7 @@ pub record Tops (out err : Type 0) (words : List (List ℕ)) (old new : Streams)
   pub runs : RunsWords out err words old ran ends report
   pub line : IsLine (line_of ends) ran new
 
--- Where the words hand over a script, its run is complete.
+-- Where the words hand over a script that is built, its run is complete.
 abbrev pub IsCompleteFor : (out err : Type 0) → List (List ℕ) → Ending → Type 0
-IsCompleteFor out err words ends = (text : List ℕ) (script : Script) → Asks words text → length text ≤ longest → IsScriptOf script text →
+IsCompleteFor out err words ends = (text : List ℕ) (script : Script) → Asks words text → IsScriptOf script text → is_built script ≡ true →
     IsComplete out err (Serial script start default_turns) ends

@@ -1,14 +1,19 @@
 //! How a run ends, and what is told of it.
 
-ghost use Rattle.std.specs.Prelude.{◌≡◌};
-ghost use Rattle.hs_main.specs.Ending.{line_of, status_of};
+ghost use Rattle.std.specs.Prelude.{◌≡◌, IfOk};
+ghost use Rattle.hs_main.specs.Ending.{line_of, status_of, syntax_line_of};
 
+use itoa::Buffer;
 use sh_leaf::SpentKind;
+use sh_syntax::Fault;
+use std::alloc::{AllocError, Global};
 
 #[derive(Clone, Copy, Debug, PartialEq, Eq)]
 pub enum Ending {
     /// The script ran to its end, with this status.
     Done(u8),
+    /// The text spells no script: the line on which that is found, and why.
+    Syntax { line: u32, fault: Fault },
     /// The words or the script are of a form that is not built yet.
     Unbuilt,
     /// A write to standard output or standard error failed.
@@ -25,6 +30,7 @@ impl Ending {
     {
         match self {
             Ending::Done(status) => status,
+            Ending::Syntax { .. } => 2,
             Ending::OutFault => 121,
             Ending::Unbuilt => 123,
             Ending::Spent(_) => 124,
@@ -32,20 +38,37 @@ impl Ending {
         }
     }
 
-    /// The line for standard error; none where the script ran to its end.
-    pub fn line(self) -> &'static [u8]
-        ensures { result.now ≡ line_of self }
+    /// The line for standard error; empty where the script ran to its end.
+    pub fn line(self, alloc: Global) -> Result<Vec<u8>, AllocError>
+        ensures { IfOk result (λ line. line.items ≡ line_of self) }
     {
         match self {
-            Ending::Done(_) => b"",
-            Ending::OutFault => b"hs: output failed\n",
-            Ending::Unbuilt => b"hs: not built yet\n",
-            Ending::Spent(SpentKind::Turns) => b"hs: budget spent: turns\n",
-            Ending::Spent(SpentKind::Bytes) => b"hs: budget spent: bytes\n",
-            Ending::Spent(SpentKind::Tree) => b"hs: budget spent: tree\n",
-            Ending::NoMemory => b"hs: out of memory\n",
+            Ending::Done(_) => Ok(Vec::new(alloc)),
+            Ending::Syntax { line, .. } => syntax_line(alloc, line),
+            Ending::Unbuilt => Vec::from_slice(alloc, b"hs: not built yet\n"),
+            Ending::OutFault => Vec::from_slice(alloc, b"hs: output failed\n"),
+            Ending::Spent(SpentKind::Turns) => {
+                Vec::from_slice(alloc, b"hs: budget spent: turns\n")
+            }
+            Ending::Spent(SpentKind::Bytes) => {
+                Vec::from_slice(alloc, b"hs: budget spent: bytes\n")
+            }
+            Ending::Spent(SpentKind::Tree) => {
+                Vec::from_slice(alloc, b"hs: budget spent: tree\n")
+            }
+            Ending::NoMemory => Vec::from_slice(alloc, b"hs: out of memory\n"),
         }
     }
+}
+
+fn syntax_line(alloc: Global, line: u32) -> Result<Vec<u8>, AllocError>
+    ensures { IfOk result (λ text. text.items ≡ syntax_line_of line) }
+{
+    let mut digits = Buffer::new();
+    let mut text = Vec::from_slice(alloc, b"hs: line ")?;
+    text.extend_from_slice(digits.format(line).as_bytes())?;
+    text.extend_from_slice(b": syntax error\n")?;
+    Ok(text)
 }
 
 /// What a run came to.

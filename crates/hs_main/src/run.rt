@@ -1,12 +1,12 @@
 //! A run of a script, one leaf after another.
 
-ghost use Rattle.std.specs.Prelude.{◌≡◌, ◌≤◌, ◌-◌, ℕ, List, []};
+ghost use Rattle.std.specs.Prelude.{◌≡◌, ◌≤◌, ◌-◌, ℕ, List, [], true};
 ghost use Rattle.std.specs.Arc.{arc_value};
 ghost use Rattle.hs_outside.specs.Causes.{Rose};
 ghost use Rattle.sh_leaf.specs.Do.{Status};
 ghost use Rattle.sh_leaf.specs.Run.{Serial, begin, list_at, run_items, run_list};
-ghost use Rattle.sh_parser.specs.Spells.{Spells};
-ghost use Rattle.sh_parser.specs.declared.tree.Script.{Script};
+ghost use Rattle.sh_leaf.specs.Built.{is_built};
+ghost use Rattle.sh_syntax.specs.declared.tree.Script.{Script};
 ghost use Rattle.hs_main.specs.Commit.{Streams};
 ghost use Rattle.hs_main.specs.Plain.{GotRuns, IsComplete, LeafRuns, Runs, ending_of};
 
@@ -15,7 +15,7 @@ use crate::ending::{Ending, Report};
 use hs_outside::{Host, Sink};
 use hs_world::{Effect, Limits, World};
 use sh_leaf::{SpentKind, echo_effects};
-use sh_parser::{AndOr, Script};
+use sh_syntax::{AndOr, Script};
 use std::alloc::Global;
 use std::sync::Arc;
 
@@ -182,7 +182,7 @@ pub fn plain<H: Host, O: Sink, E: Sink>(
     out: &mut O,
     err: &mut E,
 ) -> (Ending, Report)
-    requires built { (text : List ℕ) × Spells (arc_value script) text }
+    requires built { is_built (arc_value script) ≡ true }
     requires bytes { 2097152 ≤ limits.bytes }
     ensures runs { Runs (Rose (O.faults out.old) (O.faults out.new)) (Rose (E.faults err.old) (E.faults err.new)) (arc_value script) world limits.turns
         (record { out = O.written out.old; err = E.written err.old }) (record { out = O.written out.new; err = E.written err.new }) result.0 result.1 }

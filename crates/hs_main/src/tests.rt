@@ -7,8 +7,9 @@ use crate::top::top;
 use hs_outside::{MemoryHost, MemorySink, MemorySource};
 use hs_text::{Text, TextList};
 use hs_world::{Limits, Tree, World};
-use sh_leaf::SpentKind;
-use sh_parser::parse;
+use sh_leaf::{SpentKind, built};
+use sh_script::parse;
+use sh_syntax::{Fault, Opening};
 use std::alloc::{AllocError, Global};
 use std::sync::Arc;
 use std::test::Fail;
@@ -84,6 +85,17 @@ fn unbuilt<'a>(words: &'a [&'a [u8]]) -> Row<'a> {
     }
 }
 
+/// The script is refused on its first line.
+fn refused<'a>(words: &'a [&'a [u8]], fault: Fault) -> Row<'a> {
+    Row {
+        words,
+        out: b"",
+        err: b"hs: line 1: syntax error\n",
+        ending: Ending::Syntax { line: 1, fault },
+        status: 2,
+    }
+}
+
 #[test]
 fn rows(rt: HostRuntime) -> Result<(), Fail> {
     let rows = [
@@ -91,10 +103,18 @@ fn rows(rt: HostRuntime) -> Result<(), Fail> {
         done(&[b"-c", b"echo a; echo b"], b"a\nb\n"),
         done(&[b"-c", b"echo a; echo 'b c'"], b"a\nb c\n"),
         done(&[b"-c", b"\n\necho\n"], b"\n"),
+        done(&[b"-c", b"echo \"a  b\" c\\ d # e"], b"a  b c d\n"),
+        done(&[b"-c", b"echo \"\\$x\" '*'\necho a\\\nb"], b"$x *\nab\n"),
         unbuilt(&[b"-c", b"echo $x"]),
-        unbuilt(&[b"-c", b"echo 'a"]),
-        unbuilt(&[b"-c", b"; echo a"]),
+        refused(&[b"-c", b"echo 'a"], Fault::Unclosed(Opening::Single)),
+        refused(&[b"-c", b"; echo a"], Fault::Unexpected),
+        refused(&[b"-c", b"a & b"], Fault::Unexpected),
+        refused(&[b"-c", b"echo ${a$b}"], Fault::BadParameter),
         unbuilt(&[b"-c", b"ls"]),
+        unbuilt(&[b"-c", b"echo a && echo b"]),
+        unbuilt(&[b"-c", b"echo *"]),
+        unbuilt(&[b"-c", b"echo a >f"]),
+        unbuilt(&[b"-c", b"{ echo a; }"]),
         unbuilt(&[b"-c"]),
         unbuilt(&[b"-c", b"echo a", b"name"]),
         unbuilt(&[b"script", b"echo a"]),
@@ -107,6 +127,32 @@ fn rows(rt: HostRuntime) -> Result<(), Fail> {
         assert_eq!(rt; shown.answer.ending, row.ending);
         assert_eq!(rt; shown.answer.status, row.status);
     }
+    Ok(())
+}
+
+#[test]
+fn a_fault_is_told_with_its_line(rt: HostRuntime) -> Result<(), Fail> {
+    let shown = run(rt.alloc(), &[b"-c", b"echo a\n)"])?;
+    assert!(rt; shown.out.written().is_empty());
+    assert!(rt; shown.err.written() == b"hs: line 2: syntax error\n".as_slice());
+    Ok(())
+}
+
+/// How a script ends that is one comment of so many bytes.
+fn comment(alloc: Global, bytes: usize) -> Result<Ending, AllocError> {
+    let text = vec![in alloc; b'#'; bytes]?;
+    Ok(run(alloc, &[b"-c", &text])?.answer.ending)
+}
+
+#[test]
+fn a_script_has_a_mebibyte_at_most(rt: HostRuntime) -> Result<(), Fail> {
+    let alloc = rt.alloc();
+    assert_eq!(rt; comment(alloc, 1_048_576)?, Ending::Done(0));
+    let too_long = Ending::Syntax {
+        line: 1,
+        fault: Fault::TooLong,
+    };
+    assert_eq!(rt; comment(alloc, 1_048_577)?, too_long);
     Ok(())
 }
 
@@ -153,7 +199,9 @@ fn a_line_that_cannot_be_written_changes_nothing_else(rt: HostRuntime) -> Result
 #[test]
 fn a_run_with_one_turn_does_one_command(rt: HostRuntime) -> Result<(), Fail> {
     let alloc = rt.alloc();
-    let script = Arc::new(alloc, parse(alloc, b"echo a; echo b")?)?;
+    let script = parse(alloc, b"echo a; echo b")?;
+    assert!(rt; built(&script));
+    let script = Arc::new(alloc, script)?;
     let limits = Limits {
         bytes: 16_777_216,
         turns: 1,

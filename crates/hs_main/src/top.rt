@@ -2,9 +2,9 @@
 
 ghost use Rattle.std.specs.Prelude.{◌≡◌, ◌≤◌, ℕ, List, IfOk, MatchOption};
 ghost use Rattle.hs_outside.specs.Causes.{Rose};
-ghost use Rattle.hs_main.specs.Ending.{status_of};
+ghost use Rattle.hs_main.specs.Ending.{IsTold, line_of, status_of};
 ghost use Rattle.hs_main.specs.Commit.{Streams};
-ghost use Rattle.hs_main.specs.Top.{Asks, IsCompleteFor, RunsWords, Tops, no_report, start};
+ghost use Rattle.hs_main.specs.Top.{Asks, Finds, IsCompleteFor, Parsed, RunsWords, Tops, no_report, start};
 
 use crate::ending::{Answer, Ending, Report};
 use crate::gate::Gate;
@@ -12,7 +12,9 @@ use crate::run::plain;
 use hs_outside::{Host, Sink, Source, send};
 use hs_text::{Text, TextList};
 use hs_world::{Limits, Tree, World, WorldErr};
-use sh_parser::{ParseErr, Script, parse};
+use sh_leaf::built;
+use sh_script::{ParseErr, parse};
+use sh_syntax::Script;
 use std::alloc::{AllocError, Global};
 use std::sync::Arc;
 
@@ -67,6 +69,31 @@ fn script_text(words: &[Text]) -> Option<&Text>
     }
 }
 
+/// The one script that a text spells.
+fn parsed(alloc: Global, text: &[u8]) -> Result<Script, ParseErr>
+    ensures { Parsed result text.now }
+{
+    parse(alloc, text)
+}
+
+/// The one script that a text spells, where it is of the forms that are built; else how the program ends.
+#[tactic(auto, using(crate::proofs::Tops::unbuilt_of))]
+fn built_script(alloc: Global, text: &[u8]) -> Result<Script, Ending>
+    ensures { Finds result text.now }
+{
+    match parsed(alloc, text) {
+        Ok(script) => {
+            if built(&script) {
+                Ok(script)
+            } else {
+                Err(Ending::Unbuilt)
+            }
+        }
+        Err(ParseErr::Syntax { line, fault }) => Err(Ending::Syntax { line, fault }),
+        Err(ParseErr::NoMemory) => Err(Ending::NoMemory),
+    }
+}
+
 /// Runs the script that the words hand over.
 fn run_words<H: Host, O: Sink, E: Sink>(
     alloc: Global,
@@ -83,10 +110,9 @@ fn run_words<H: Host, O: Sink, E: Sink>(
     let Some(text) = script_text(words) else {
         return (Ending::Unbuilt, no_report());
     };
-    let script = match parse(alloc, text.as_slice()) {
+    let script = match built_script(alloc, text.as_slice()) {
         Ok(script) => script,
-        Err(ParseErr::Unbuilt) => return (Ending::Unbuilt, no_report()),
-        Err(ParseErr::NoMemory) => return (Ending::NoMemory, no_report()),
+        Err(ending) => return (ending, no_report()),
     };
     let Ok(script) = Arc::new(alloc, script) else {
         return (Ending::NoMemory, no_report());
@@ -95,6 +121,16 @@ fn run_words<H: Host, O: Sink, E: Sink>(
         return (Ending::NoMemory, no_report());
     };
     plain(alloc, script, world, LIMITS, host, out, err)
+}
+
+/// Tries the line of an ending on standard error, once.
+fn tell<E: Sink>(alloc: Global, err: &mut E, ending: Ending)
+    ensures told { IsTold (line_of ending) (E.written err.old) (E.written err.new) }
+    ensures later { E.faults err.old ≤ E.faults err.new }
+{
+    if let Ok(line) = ending.line(alloc) {
+        let _ = send(err, &line);
+    }
 }
 
 /// All that the program does: reads the words, runs the script over the host and the two sinks, and says on standard
@@ -119,7 +155,7 @@ pub fn top<H: Host, I: Source, O: Sink, E: Sink, G: Gate>(
     let _ = input;
     let _ = gate;
     let (ending, report) = run_words(alloc, words, host, out, err);
-    let _ = send(err, ending.line());
+    tell(alloc, err, ending);
     Answer {
         status: ending.status(),
         ending,

@@ -3,11 +3,11 @@ use Rattle.std.proofs.Common.{◌≡◌, ℕ, zero, suc, List, [], ◌∷◌, �
 use Rattle.std.specs.Prelude.{slice_get}
 use Rattle.hs_world.specs.declared.effect.Effect.{Effect}
 use Rattle.hs_world.specs.World.{WorldData, Applied}
-use Rattle.sh_parser.specs.declared.tree.AndOr.{AndOr}
-use Rattle.sh_parser.specs.declared.tree.Pipeline.{Pipeline}
-use Rattle.sh_parser.specs.declared.tree.Command.{Command}
-use Rattle.sh_parser.specs.declared.tree.Command.TheVariants.{Simple}
-use Rattle.sh_parser.specs.declared.tree.Script.{Script}
+use Rattle.sh_syntax.specs.declared.tree.AndOr.{AndOr}
+use Rattle.sh_syntax.specs.declared.tree.Pipeline.{Pipeline}
+use Rattle.sh_syntax.specs.declared.tree.Command.{Command}
+use Rattle.sh_syntax.specs.declared.tree.Command.TheVariants.{Simple, Compound, Function}
+use Rattle.sh_syntax.specs.declared.tree.Script.{Script}
 use Rattle.sh_leaf.specs.Leaf.{leaf_effects, command_effects, effects_of, fields}
 use Rattle.sh_leaf.specs.Do.{Way, Do}
 use Rattle.sh_leaf.specs.Run.{State, Got, Gave, Ends, onward, absorb, run_leaf, run_items, state_of}
@@ -42,7 +42,9 @@ words-status (x ∷ xs) w = refl
 
 stages-status : (stages : List Command) (w : WorldData) → (Applied (command_effects stages) w).status ≡ 0
 stages-status [] w = refl
-stages-status (Simple words ∷ cs) w = words-status (fields words) w
+stages-status (Simple assigns words redirs ∷ cs) w = words-status (fields words) w
+stages-status (Compound body redirs ∷ cs) w = refl
+stages-status (Function name body ∷ cs) w = refl
 
 -- a leaf leaves status 0
 pub leaf-status : (pipeline : Option Pipeline) (w : WorldData) → (Applied (leaf_effects pipeline) w).status ≡ 0

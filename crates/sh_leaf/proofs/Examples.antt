@@ -1,17 +1,18 @@
 -- The meaning computed on small scripts.
 use Rattle.std.proofs.Common.{◌≡◌, List, [], ◌∷◌, ◌++◌, refl}
-use Rattle.std.specs.Prelude.{codes}
+use Rattle.std.specs.Prelude.{codes, true, false}
 use Rattle.hs_world.specs.declared.effect.Effect.{Effect}
 use Rattle.hs_world.specs.declared.effect.Effect.TheVariants.{Emit, SetStatus}
 use Rattle.hs_world.specs.declared.effect.Fd.TheVariants.{One}
 use Rattle.std.specs.FinMap.{empty}
 use Rattle.hs_world.specs.World.{WorldData, new_world, output, errors, Applied}
-use Rattle.sh_parser.specs.declared.tree.Part.TheVariants.{Plain, Single}
-use Rattle.sh_parser.specs.declared.tree.Word.{Word}
-use Rattle.sh_parser.specs.declared.tree.Command.TheVariants.{Simple}
-use Rattle.sh_parser.specs.declared.tree.Pipeline.{Pipeline}
-use Rattle.sh_parser.specs.declared.tree.Script.{Script}
+use Rattle.sh_syntax.specs.declared.tree.Part.{Plain, Single, Escaped}
+use Rattle.sh_syntax.specs.declared.tree.Word.{Word}
+use Rattle.sh_syntax.specs.declared.tree.Command.TheVariants.{Simple}
+use Rattle.sh_syntax.specs.declared.tree.Pipeline.{Pipeline}
+use Rattle.sh_syntax.specs.declared.tree.Script.{Script}
 use Rattle.sh_leaf.specs.declared.spent.SpentKind.TheVariants.{Turns, Bytes}
+use Rattle.sh_leaf.specs.Built.{is_built, is_built_word}
 use Rattle.sh_leaf.specs.Leaf.{echo_line, field}
 use Rattle.sh_leaf.specs.Do.{Ran_out}
 use Rattle.sh_leaf.specs.Run.{Done, Stopped, Serial, whole_run}
@@ -20,17 +21,18 @@ abbrev w₀ : WorldData
 w₀ = new_world empty [] (codes "hs") [] [] (record { bytes = 1024; turns = 1 })
 
 abbrev echo : List Word → Pipeline
-echo words = record { stages = Simple (record { parts = Plain (codes "echo") ∷ [] } ∷ words) ∷ [] }
+echo words = record { bang = false; stages = Simple [] (record { parts = Plain (codes "echo") ∷ [] } ∷ words) [] ∷ [] }
 
 -- echo a; echo 'b c'
 abbrev two : Script
 two = record {
-  lists = record { items = record { first = 0 } ∷ record { first = 1 } ∷ [] } ∷ [];
+  lists = record { items = record { first = 0; rest = [] } ∷ record { first = 1; rest = [] } ∷ [] } ∷ [];
+  bodies = [];
   leaves = echo (record { parts = Plain (codes "a") ∷ [] } ∷ []) ∷ echo (record { parts = Single (codes "b c") ∷ [] } ∷ []) ∷ [];
 }
 
 abbrev nothing : Script
-nothing = record { lists = record { items = [] } ∷ []; leaves = [] }
+nothing = record { lists = record { items = [] } ∷ []; bodies = []; leaves = [] }
 
 abbrev two_effects : List Effect
 two_effects = Emit One (97 ∷ 10 ∷ []) ∷ SetStatus 0 ∷ Emit One (98 ∷ 32 ∷ 99 ∷ 10 ∷ []) ∷ SetStatus 0 ∷ []
@@ -73,5 +75,17 @@ no-words = refl
 three-words : echo_line (codes "a" ∷ [] ∷ codes "b" ∷ []) ≡ codes "a  b" ++ 10 ∷ []
 three-words = refl
 
-quotes-removed : field (record { parts = Plain (codes "a") ∷ Single (codes " b") ∷ Plain (codes "c") ∷ [] }) ≡ codes "a bc"
+quotes-removed : field (record { parts = Plain (codes "a") ∷ Single (codes " b") ∷ Escaped 42 ∷ [] }) ≡ codes "a b*"
 quotes-removed = refl
+
+two-is_built : is_built two ≡ true
+two-is_built = refl
+
+pattern-is_not : is_built_word (record { parts = Plain (codes "a*") ∷ [] }) ≡ false
+pattern-is_not = refl
+
+quoted_pattern-is : is_built_word (record { parts = Plain (codes "a") ∷ Escaped 42 ∷ Single (codes "?") ∷ [] }) ≡ true
+quoted_pattern-is = refl
+
+bang-is_not : is_built (record two { leaves = record { bang = true; stages = [] } ∷ [] }) ≡ false
+bang-is_not = refl

@@ -2,7 +2,7 @@
 use Rattle.std.specs.Prelude.{ℕ, zero, suc, List, [], slice_get}
 use Rattle.hs_world.specs.declared.effect.Effect.{Effect}
 use Rattle.hs_world.specs.World.{WorldData}
-use Rattle.sh_parser.specs.declared.tree.Script.{Script}
+use Rattle.sh_syntax.specs.declared.tree.Script.{Script}
 use Rattle.sh_leaf.specs.declared.spent.SpentKind.{SpentKind}
 use Rattle.sh_leaf.specs.declared.spent.SpentKind.TheVariants.{Turns}
 use Rattle.sh_leaf.specs.Leaf.{leaf_effects}

@@ -3,18 +3,31 @@ use Rattle.std.specs.Prelude.{ℕ, List, [], ◌∷◌, ◌++◌, Option, Some, 
 use Rattle.hs_world.specs.declared.effect.Effect.{Effect}
 use Rattle.hs_world.specs.declared.effect.Effect.TheVariants.{Emit, SetStatus}
 use Rattle.hs_world.specs.declared.effect.Fd.TheVariants.{One}
-use Rattle.sh_parser.specs.declared.tree.Part.{Part}
-use Rattle.sh_parser.specs.declared.tree.Part.TheVariants.{Plain, Single}
-use Rattle.sh_parser.specs.declared.tree.Word.{Word}
-use Rattle.sh_parser.specs.declared.tree.Command.{Command}
-use Rattle.sh_parser.specs.declared.tree.Command.TheVariants.{Simple}
-use Rattle.sh_parser.specs.declared.tree.Pipeline.{Pipeline}
+use Rattle.sh_syntax.specs.declared.tree.Part.{Part, out-Part}
+use Rattle.sh_syntax.specs.declared.tree.Part.TheOpen as open_part
+use Rattle.sh_syntax.specs.declared.tree.Part.{Plain, Single, Escaped}
+use Rattle.sh_syntax.specs.declared.tree.Word.{Word}
+use Rattle.sh_syntax.specs.declared.tree.Command.{Command}
+use Rattle.sh_syntax.specs.declared.tree.Command.TheVariants.{Simple}
+use Rattle.sh_syntax.specs.declared.tree.Pipeline.{Pipeline}
 
--- ---- quote removal (XCU 2.6.7)
+-- ---- quote removal (XCU 2.6.7), where nothing is expanded
+
+-- inside double quotes
+abbrev pub inner_bytes : Part → List ℕ
+inner_bytes (Plain bytes) = bytes
+inner_bytes (Escaped byte) = byte ∷ []
+inner_bytes _ = []
+
+abbrev pub inners : List Part → List ℕ
+inners [] = []
+inners (p ∷ ps) = inner_bytes p ++ inners ps
 
 abbrev pub part_bytes : Part → List ℕ
 part_bytes (Plain bytes) = bytes
 part_bytes (Single bytes) = bytes
+part_bytes (Escaped byte) = byte ∷ []
+part_bytes p = elim (out-Part p) [ open_part.Double parts ↦ inners parts | open_part.Plain bytes ↦ [] | open_part.Single bytes ↦ [] | open_part.Escaped byte ↦ [] | open_part.Param name op colon word ↦ [] | open_part.Command n ↦ [] | open_part.Arith text ↦ [] ]
 
 abbrev pub bytes_of : List Part → List ℕ
 bytes_of [] = []
@@ -46,7 +59,8 @@ effects_of (name ∷ args) = Emit One (echo_line args) ∷ SetStatus 0 ∷ []
 
 abbrev pub command_effects : List Command → List Effect
 command_effects [] = effects_of []
-command_effects (Simple words ∷ cs) = effects_of (fields words)
+command_effects (Simple assigns words redirs ∷ cs) = effects_of (fields words)
+command_effects (_ ∷ cs) = effects_of []
 
 abbrev pub leaf_effects : Option Pipeline → List Effect
 leaf_effects None = effects_of []

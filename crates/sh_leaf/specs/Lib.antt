@@ -1,3 +1,4 @@
+pub mod Built
 pub mod Do
 pub mod Leaf
 pub mod Run

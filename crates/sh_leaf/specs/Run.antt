@@ -6,9 +6,9 @@ use Rattle.hs_world.specs.declared.effect.Effect.TheVariants.{SetStatus}
 use Rattle.hs_world.specs.declared.world.Limit.{Limit}
 use Rattle.hs_world.specs.declared.world.Limit.TheVariants as limit
 use Rattle.hs_world.specs.World.{WorldData, Apply, Applied, passed}
-use Rattle.sh_parser.specs.declared.tree.AndOr.{AndOr}
-use Rattle.sh_parser.specs.declared.tree.List as tree
-use Rattle.sh_parser.specs.declared.tree.Script.{Script}
+use Rattle.sh_syntax.specs.declared.tree.AndOr.{AndOr}
+use Rattle.sh_syntax.specs.declared.tree.List as tree
+use Rattle.sh_syntax.specs.declared.tree.Script.{Script}
 use Rattle.sh_leaf.specs.declared.spent.SpentKind.{SpentKind}
 use Rattle.sh_leaf.specs.declared.spent.SpentKind.TheVariants as spent
 use Rattle.sh_leaf.specs.Do.{Way, Status, Stop, Ran_out, Came, Gives, Stops, Did, Do}

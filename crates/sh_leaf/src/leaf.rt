@@ -2,21 +2,46 @@
 
 ghost use Rattle.std.specs.Prelude.{◌≡◌, ◌++◌, ℕ, suc, IfOk, OnOk};
 ghost use Rattle.hs_world.specs.World.{WorldData};
-ghost use Rattle.sh_leaf.specs.Leaf.{echo_line, effects_of, field, fields, part_bytes, spaced};
+ghost use Rattle.sh_leaf.specs.Leaf.{echo_line, effects_of, field, fields, inner_bytes, inners, part_bytes, spaced};
 ghost use Rattle.sh_leaf.specs.Do.{Do, Gives, Status};
 
 use hs_text::Text;
 use hs_world::{Effect, Effects, Fd};
-use sh_parser::{Command, Part, Script, Word};
+use sh_syntax::{Command, Part, Script, Word};
 use std::alloc::{AllocError, Global};
 
-fn bytes_of_part(part: &Part) -> &[u8]
-    ensures { result.now ≡ part_bytes part.now }
+/// Puts a part inside double quotes behind a line.
+fn push_inner(line: &mut Vec<u8>, part: &Part) -> Result<(), AllocError>
+    ensures { OnOk result (line.new.items ≡ line.old.items ++ inner_bytes part.now) }
 {
     match part {
-        Part::Plain(bytes) => bytes.as_slice(),
-        Part::Single(bytes) => bytes.as_slice(),
+        Part::Plain(bytes) => line.extend_from_slice(bytes.as_slice())?,
+        Part::Escaped(byte) => line.push(*byte)?,
+        _ => {}
     }
+    Ok(())
+}
+
+fn push_inners(line: &mut Vec<u8>, parts: &[Part]) -> Result<(), AllocError>
+    ensures { OnOk result (line.new.items ≡ line.old.items ++ inners parts.now) }
+{
+    for part in parts {
+        push_inner(line, part)?;
+    }
+    Ok(())
+}
+
+fn push_part(line: &mut Vec<u8>, part: &Part) -> Result<(), AllocError>
+    ensures { OnOk result (line.new.items ≡ line.old.items ++ part_bytes part.now) }
+{
+    match part {
+        Part::Plain(bytes) => line.extend_from_slice(bytes.as_slice())?,
+        Part::Single(bytes) => line.extend_from_slice(bytes.as_slice())?,
+        Part::Escaped(byte) => line.push(*byte)?,
+        Part::Double(parts) => push_inners(line, parts.as_slice())?,
+        _ => {}
+    }
+    Ok(())
 }
 
 /// Puts a word after quote removal behind a line (XCU 2.6.7).
@@ -24,7 +49,7 @@ fn push_word(line: &mut Vec<u8>, word: &Word) -> Result<(), AllocError>
     ensures { OnOk result (line.new.items ≡ line.old.items ++ field word.now) }
 {
     for part in word.parts.as_slice() {
-        line.extend_from_slice(bytes_of_part(part))?;
+        push_part(line, part)?;
     }
     Ok(())
 }
@@ -74,7 +99,7 @@ pub fn echo_effects(alloc: Global, script: &Script, number: u32) -> Result<Effec
         return simple_effects(alloc, &[]);
     };
     match pipeline.stages.as_slice() {
-        [Command::Simple { words }, ..] => simple_effects(alloc, words.as_slice()),
-        [] => simple_effects(alloc, &[]),
+        [Command::Simple { words, .. }, ..] => simple_effects(alloc, words.as_slice()),
+        _ => simple_effects(alloc, &[]),
     }
 }

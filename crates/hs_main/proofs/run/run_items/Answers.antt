@@ -1,4 +1,4 @@
-use Rattle.std.proofs.Common.{arith, refl}
+use Rattle.std.proofs.Common.{arith}
 use Rattle.std.proofs.Math.ListN.{drop_of_length-le}
 use Rattle.hs_main.proofs.Commits.{rose-later}
 use Rattle.hs_main.proofs.Runs.{reached-start, reached-next, reached-stop, reached-end}
@@ -14,12 +14,12 @@ loop-item-init g c = record {
 
 pub returns-in-Err-clause-runs : goal.returns-in-Err-clause-runs
 returns-in-Err-clause-runs g c =
-    reached-stop _ _ _ _ (record { first = 0 }) _ _ _ _ _ _ 0 0 _ 0 _ _ _ _ (rose-later _ _ _ c.loop-item.invariant.out_later)
-    (rose-later _ _ _ c.loop-item.invariant.err_later) c.loop-item-test.true refl c.loop-item.invariant.reached c.in-Err.ensures.runs
+    reached-stop _ _ _ _ c.item-item.result _ _ _ _ _ _ 0 0 _ 0 _ _ _ _ (rose-later _ _ _ c.loop-item.invariant.out_later)
+    (rose-later _ _ _ c.loop-item.invariant.err_later) c.loop-item-test.true c.item-item.is c.loop-item.invariant.reached c.in-Err.ensures.runs
 
 pub loop-item-preserved : goal.loop-item-preserved
 loop-item-preserved g c = record {
-  reached = reached-next (Unit {0}) (Unit {0}) _ _ _ _ _ (record { first = 0 }) _ _ _ _ _ _ _ _ _ _ _ _ c.loop-item-test.true refl c.in-Ok.ensures.head
+  reached = reached-next (Unit {0}) (Unit {0}) _ _ _ _ _ c.item-item.result _ _ _ _ _ _ _ _ _ _ _ _ c.loop-item-test.true c.item-item.is c.in-Ok.ensures.head
       c.loop-item.invariant.reached c.in-Ok.ensures.runs;
   head = omega (arith, c.in-Ok.ensures.head, c.loop-item.invariant.head);
   out_later = omega (arith, c.in-Ok.ensures.out_later);

@@ -1,5 +1,5 @@
 use Rattle.std.proofs.Common.{ap, List}
-use Rattle.sh_parser.specs.declared.tree.AndOr.{AndOr}
+use Rattle.sh_syntax.specs.declared.tree.AndOr.{AndOr}
 use Rattle.sh_leaf.specs.Run.{begin, run_list}
 use Rattle.hs_main.proofs.Runs.{got-same}
 use Rattle.hs_main.proofs.run.run_script.Goals as goal

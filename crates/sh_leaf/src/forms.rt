@@ -1,0 +1,150 @@
+//! Which scripts are built. Each part of the tree is looked at once, and no memory is taken.
+
+ghost use Rattle.std.specs.Prelude.{◌≡◌};
+ghost use Rattle.std.specs.List.{list_all, list_any};
+ghost use Rattle.sh_leaf.specs.Built.{is_alone, is_built, is_built_command, is_built_part, is_built_pipeline, is_built_word, is_echo, is_echo_name, is_echo_part, is_inner, is_sequence, is_special, is_unjoined};
+
+use sh_syntax::{AndOr, Command, List, Part, Pipeline, Script, Word};
+
+fn is_special(byte: u8) -> bool
+    ensures { result ≡ is_special byte }
+{
+    byte == b'~' || byte == b'*' || byte == b'?' || byte == b'['
+}
+
+fn has_special(bytes: &[u8]) -> bool
+    ensures { result ≡ list_any is_special bytes.now }
+{
+    bytes.iter().any(|byte| is_special(*byte))
+}
+
+/// Whether a part inside double quotes needs no expansion.
+fn is_inner(part: &Part) -> bool
+    ensures { result ≡ is_inner part.now }
+{
+    matches!(part, Part::Plain(_) | Part::Escaped(_))
+}
+
+fn are_inner(parts: &[Part]) -> bool
+    ensures { result ≡ list_all is_inner parts.now }
+{
+    parts.iter().all(|part| is_inner(part))
+}
+
+fn is_built_part(part: &Part) -> bool
+    ensures { result ≡ is_built_part part.now }
+{
+    match part {
+        Part::Plain(bytes) => !has_special(bytes.as_slice()),
+        Part::Single(_) => true,
+        Part::Escaped(_) => true,
+        Part::Double(parts) => are_inner(parts.as_slice()),
+        _ => false,
+    }
+}
+
+fn is_built_word(word: &Word) -> bool
+    ensures { result ≡ is_built_word word.now }
+{
+    word.parts.as_slice().iter().all(|part| is_built_part(part))
+}
+
+fn are_built_words(words: &[Word]) -> bool
+    ensures { result ≡ list_all is_built_word words.now }
+{
+    words.iter().all(|word| is_built_word(word))
+}
+
+fn is_echo_part(part: &Part) -> bool
+    ensures { result ≡ is_echo_part part.now }
+{
+    match part {
+        Part::Plain(name) => name.as_slice() == b"echo".as_slice(),
+        _ => false,
+    }
+}
+
+fn is_echo_name(parts: &[Part]) -> bool
+    ensures { result ≡ is_echo_name parts.now }
+{
+    match parts {
+        [part] => is_echo_part(part),
+        _ => false,
+    }
+}
+
+fn is_echo(words: &[Word]) -> bool
+    ensures { result ≡ is_echo words.now }
+{
+    match words {
+        [name, ..] => is_echo_name(name.parts.as_slice()),
+        [] => false,
+    }
+}
+
+fn is_built_command(command: &Command) -> bool
+    ensures { result ≡ is_built_command command.now }
+{
+    match command {
+        Command::Simple {
+            assigns,
+            words,
+            redirs,
+        } => {
+            assigns.is_empty()
+                && are_built_words(words.as_slice())
+                && is_echo(words.as_slice())
+                && redirs.is_empty()
+        }
+        _ => false,
+    }
+}
+
+fn is_alone(stages: &[Command]) -> bool
+    ensures { result ≡ is_alone stages.now }
+{
+    match stages {
+        [command] => is_built_command(command),
+        _ => false,
+    }
+}
+
+fn is_built_pipeline(pipeline: &Pipeline) -> bool
+    ensures { result ≡ is_built_pipeline pipeline.now }
+{
+    !pipeline.bang && is_alone(pipeline.stages.as_slice())
+}
+
+fn is_unjoined(list: &AndOr) -> bool
+    ensures { result ≡ is_unjoined list.now }
+{
+    list.rest.is_empty()
+}
+
+fn is_sequence(list: &List) -> bool
+    ensures { result ≡ is_sequence list.now }
+{
+    list.items.as_slice().iter().all(|item| is_unjoined(item))
+}
+
+fn are_sequences(lists: &[List]) -> bool
+    ensures { result ≡ list_all is_sequence lists.now }
+{
+    lists.iter().all(|list| is_sequence(list))
+}
+
+fn are_built_pipelines(leaves: &[Pipeline]) -> bool
+    ensures { result ≡ list_all is_built_pipeline leaves.now }
+{
+    leaves.iter().all(|pipeline| is_built_pipeline(pipeline))
+}
+
+/// Whether the whole script is of the forms that run: commands `echo`, one after another, whose words are plain bytes,
+/// quoted ones, or both, without a pattern or a tilde outside quotes.
+pub fn built(script: &Script) -> bool
+    ensures { result ≡ is_built script.now }
+{
+    are_sequences(script.lists.as_slice())
+        && script.bodies.is_empty()
+        && are_built_pipelines(script.leaves.as_slice())
+}

@@ -1,6 +1,0 @@
-pub mod Complete
-pub mod Examples
-pub mod Numbers
-pub mod Progress
-pub mod Sound
-pub mod Text
