@@ -61,14 +61,6 @@ first-all text left =
     ∙ ap (λ (ps : List (List ℕ)). text ++ concat ps) (take_all left [] (omega arith))
     ∙ append-nil text
 
-pub from-step : (text t : List ℕ) (start left r : ℕ) → t ≡ drop start text → 0 < left → pieces t ≡ take r t ∷ pieces (drop r t) →
-    concat (drop left (pieces (drop start text))) ≡ concat (drop (left - 1) (pieces (drop (start + r) text)))
-from-step text t start zero r is h line = absurd (omega arith)
-from-step text t start (suc l) r is h line =
-    let less : suc l - 1 ≡ l = omega arith in
-    ap (λ (ps : List (List ℕ)). concat (drop (suc l) ps)) (one-more text t start r is line)
-    ∙ ap (λ (m : ℕ). concat (drop m (pieces (drop (start + r) text)))) (sym less)
-
 pub from-done : (text : List ℕ) (start left : ℕ) → (left ≡ 0) ⊎ (length text ≤ start) → concat (drop left (pieces (drop start text))) ≡ drop start text
 from-done text start left (inl none) =
     ap (λ (m : ℕ). concat (drop m (pieces (drop start text)))) none ∙ concat-pieces (drop start text)

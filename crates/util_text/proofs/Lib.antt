@@ -7,3 +7,9 @@ pub mod Words
 pub mod Folds
 pub mod Digits
 pub mod Examples
+pub mod Fields
+pub mod Greater
+pub mod Ranges
+pub mod Trims
+pub mod Picked
+pub mod Exits

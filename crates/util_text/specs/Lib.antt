@@ -1,7 +1,14 @@
 pub mod Buffer
 pub mod Count
 pub mod Counting
+pub mod Cut
 pub mod Fold
 pub mod Lines
+pub mod Parts
+pub mod Places
+pub mod Refusals
+pub mod Selected
+pub mod Sequences
+pub mod Spans
 pub mod Tail
 pub mod Wc

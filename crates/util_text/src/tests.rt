@@ -1,5 +1,6 @@
 use crate::{
-    Chosen, Counts, count, first_lines, fold, last_lines, read_count, read_ends, tail, write_counts,
+    Chosen, Counts, TextErr, count, cut_bytes, first_lines, fold, last_lines, read_count,
+    read_ends, read_list, tail, write_counts,
 };
 use std::alloc::{AllocError, Global};
 use std::test::Fail;
@@ -169,6 +170,66 @@ fn chosen_counts_make_a_line(rt: HostRuntime) -> Result<(), Fail> {
         let mut out = Vec::new(rt.alloc());
         write_counts(&mut out, &chosen, &counts, name.map(|name| name.as_bytes()))?;
         assert_eq!(rt; out.as_slice(), wanted.as_bytes(), "{wanted:?}");
+    }
+    Ok(())
+}
+
+/// A list, a text, and the bytes that it selects.
+const BYTES: [(&str, &str, &str); 12] = [
+    ("1", "abc\n", "a\n"),
+    ("2-", "abc\nd\n", "bc\n\n"),
+    ("-2", "abc\n", "ab\n"),
+    ("3,1", "abc\n", "ac\n"),
+    ("2-3 1", "abcd", "abc\n"),
+    ("1-3,2-4", "abcdef\n", "abcd\n"),
+    ("2-9,3", "abcd\n", "bcd\n"),
+    ("5", "ab\n", "\n"),
+    ("1,1,1", "ab\n", "a\n"),
+    ("002-0003", "abcd\n", "bc\n"),
+    ("2-99999999999999999999999\t1", "abc\n", "abc\n"),
+    (
+        "99999999999999999999998-99999999999999999999999",
+        "ab\n",
+        "\n",
+    ),
+];
+
+#[test]
+fn lists_select_bytes(rt: HostRuntime) -> Result<(), Fail> {
+    for (list, text, wanted) in &BYTES {
+        let selection = read_list(rt.alloc(), list.as_bytes())?;
+        let mut out = Vec::new(rt.alloc());
+        cut_bytes(&mut out, text.as_bytes(), &selection)?;
+        assert_eq!(rt; out.as_slice(), wanted.as_bytes(), "{list} of {text:?}");
+    }
+    Ok(())
+}
+
+const BAD_LISTS: [&str; 14] = [
+    "",
+    "0",
+    "-",
+    "a",
+    "1,",
+    ",1",
+    "1,,2",
+    "1, 2",
+    "3-2",
+    "0-3",
+    "-0",
+    "1-2-3",
+    "+1",
+    "18446744073709551617-18446744073709551616",
+];
+
+#[test]
+fn bad_lists_are_refused(rt: HostRuntime) -> Result<(), Fail> {
+    for list in &BAD_LISTS {
+        let bad = matches!(
+            read_list(rt.alloc(), list.as_bytes()),
+            Err(TextErr::BadList)
+        );
+        assert!(rt; bad, "{list:?}");
     }
     Ok(())
 }

@@ -1,0 +1,18 @@
+use Rattle.std.proofs.Common.{◌≡◌, List, ◌++◌, length}
+use Rattle.std.specs.List.{flat_map}
+use Rattle.util_text.specs.Buffer.{Keeps}
+use Rattle.util_text.specs.Cut.{bytes_of_line, cut_bytes}
+use Rattle.util_text.specs.Lines.{lines}
+use Rattle.util_text.specs.Places.{Range, selects}
+use Rattle.util_text.specs.Selected.{Selects}
+use Rattle.util_text.proofs.cutting.cut_bytes.Given as goal
+
+abbrev pub invariant-lines : goal.invariant-lines
+invariant-lines l = record {
+  kept : Keeps l.fn.out.items l.out.items;
+  written : (ranges : List Range) → Selects l.selection ranges →
+      l.out.items ++ flat_map (λ line. bytes_of_line (λ place. selects ranges place) line) (lines l.rest) ≡ l.fn.out.items ++ cut_bytes (λ place. selects ranges place) l.fn.text;
+}
+
+abbrev pub decreases-lines : goal.decreases-lines
+decreases-lines l = length l.rest
