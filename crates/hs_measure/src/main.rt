@@ -10,7 +10,9 @@
 //!     hs_measure equal COUNT     compares a file of 1 MiB with an equal text, so many times
 //!     hs_measure longer COUNT    the same with a text that is longer by one byte
 //!
-//! Each prints how many effects or entries came, or comparisons said yes.
+//!     hs_measure parse FILE      reads the script of a file, and prints how many pipelines it has
+//!
+//! Each of the others prints how many effects or entries came, or comparisons said yes.
 #![tactic(auto)]
 
 mod state;
@@ -18,8 +20,9 @@ mod state;
 use anyhow::{Context, bail};
 use hs_text::Field;
 use sh_pattern::{compile, matches};
+use sh_script::parse;
 use std::alloc::{AllocError, Global};
-use std::env;
+use std::{env, fs};
 
 /// A field of these bytes, none of them quoted.
 fn unquoted(alloc: Global, text: &str) -> Result<Field, AllocError> {
@@ -57,6 +60,14 @@ fn work(alloc: Global, kind: &str, count: u32) -> anyhow::Result<u64> {
     }
 }
 
+/// How many pipelines a script has.
+fn leaves(alloc: Global, text: &[u8]) -> anyhow::Result<usize> {
+    match parse(alloc, text) {
+        Ok(script) => Ok(script.leaves.len()),
+        Err(_) => bail!("the text spells no script"),
+    }
+}
+
 fn main(rt: HostRuntime) -> anyhow::Result<()> {
     let words: Vec<String> = env::args(&rt)?.skip(1).collect(rt.alloc())?;
     match words.as_slice() {
@@ -65,12 +76,19 @@ fn main(rt: HostRuntime) -> anyhow::Result<()> {
             let answer = match_text(rt.alloc(), pattern.as_str(), piece.as_str(), count)?;
             println!(rt; "{answer}")?;
         }
+        [kind, file] if kind.as_str() == "parse" => {
+            let text = fs::read(&rt, file.as_str())?;
+            let count = leaves(rt.alloc(), &text)?;
+            println!(rt; "{count}")?;
+        }
         [kind, count] => {
             let count = count.parse::<u32>().context("COUNT is no number")?;
             let answer = work(rt.alloc(), kind.as_str(), count)?;
             println!(rt; "{answer}")?;
         }
-        _ => bail!("usage: hs_measure match PATTERN PIECE COUNT, or hs_measure WORK COUNT"),
+        _ => bail!(
+            "usage: hs_measure match PATTERN PIECE COUNT, hs_measure parse FILE, or hs_measure WORK COUNT"
+        ),
     }
     Ok(())
 }
