@@ -1,0 +1,5 @@
+mod Examples
+pub mod Heads
+pub mod Keeping
+pub mod Sounds
+pub mod Steps

@@ -1,0 +1,14 @@
+use Rattle.std.proofs.Common.{[], sym, ap, ◌∙◌, append-nil, arith, refl}
+use Rattle.hs_view.proofs.Keeping.{keeps_read}
+use Rattle.hs_view.proofs.view.View.fetch_now.Goals as goal
+
+pub returns-clause-keeps : goal.returns-clause-keeps
+returns-clause-keeps g c =
+    keeps_read g.B.Base.seen c.args.self.now _ _ [] (ap (λ v. v.reads) c.self.view_is ∙ sym (append-nil c.args.self.now.reads)) (ap (λ v. v.effects) c.self.view_is) (ap (λ v. v.trace) c.self.view_is)
+    (c.in_ok-value.ensures.writes ∙ ap (λ v. (g.B.Base.seen v.base).writes) c.self.view_is)
+    (c.in_ok-value.ensures.runs ∙ ap (λ v. (g.B.Base.seen v.base).runs) c.self.view_is)
+    (c.in_ok-value.ensures.asked ∙ ap (λ v. (g.B.Base.seen v.base).asked) c.self.view_is)
+    (c.in_ok-value.ensures.world ∙ ap (λ v. (g.B.Base.seen v.base).world) c.self.view_is)
+    (λ n. refl)
+    (λ w h. tt)
+    (let e = ap (λ v. (g.B.Base.seen v.base).faults) c.self.view_is in omega (arith, e, c.in_ok-value.ensures.later))

@@ -1,0 +1,232 @@
+//! Views that record what they read of their base. A read takes O(log n) comparisons beside what it copies.
+
+ghost use Rattle.std.specs.Prelude.{◌≡◌, ◌≢◌, ◌≤◌, ◌<◌, ◌↔◌, ◌^◌, ◌∷◌, ◌++◌, [], ℕ, true, false, if◌then◌else◌, IfOk, OnOk, OnErr, IfSome, Ok, Err};
+ghost use Rattle.hs_view.specs.Causes.{Rose};
+ghost use Rattle.hs_view.specs.Seen.{Gained, is_of};
+ghost use Rattle.hs_view.specs.Size.{trace_size};
+ghost use Rattle.hs_view.specs.View.{IsTree, Keeps, Showed, Stands, quiet};
+ghost use Rattle.hs_world.specs.Reads.{Fresh, IsNew, Passes};
+ghost use Rattle.hs_world.specs.World.{AllValid, At, WorldData};
+
+use crate::base::Base;
+use crate::halt::{Halt, SpentKind};
+use crate::size::read_size;
+use hs_text::TextList;
+use hs_world::{Effects, Loc, Reads, Reply, Value};
+use std::alloc::{AllocError, Global};
+use std::marker::Model;
+
+/// What was read of a base, and what was done on it.
+#[derive(Drop)]
+pub struct Trace {
+    pub reads: Reads,
+    pub effects: Effects,
+}
+
+/// A state as a command sees it: its base's, with the command's own effects.
+pub struct View<B: Base> {
+    base: B,
+    reads: Reads,
+    effects: Effects,
+    trace: u64,
+    size: u128,
+}
+
+impl<B: Base> Model for View<B> {
+    ghost use Rattle.hs_view.specs.View.{Viewed};
+    ghost use Rattle.hs_view.specs.Sound.{IsSound};
+    ghost use Rattle.hs_world.specs.Files.{files_code};
+    ghost use Rattle.std.specs.Coded.{codes};
+
+    ghost Value = { Viewed B };
+
+    ghost coded = { Prim.hlevel (codes, files_code) };
+
+    ghost view = { λ a. record { base = a.base; reads = a.reads; effects = a.effects; trace = a.trace } };
+
+    ghost invariant = { λ a. IsSound B.seen (record { base = a.base; reads = a.reads; effects = a.effects; trace = a.trace }) a.size };
+}
+
+impl<B: Base> View<B> {
+    /// A view that has read nothing and done nothing. It takes no memory. Over a base that does not write, reads and effects
+    /// of more than `trace` bytes are one too many.
+    pub fn new(alloc: Global, base: B, trace: u64) -> View<B>
+        ensures base { result.base ≡ base }
+        ensures reads { result.reads ≡ [] }
+        ensures effects { result.effects ≡ [] }
+        ensures trace { result.trace ≡ trace }
+    {
+        View {
+            base,
+            reads: Reads::new(alloc),
+            effects: Effects::new(alloc),
+            trace,
+            size: 0,
+        }
+    }
+
+    /// The value at a location after the view's own effects. What it had to ask of a base that does not write is in the reads.
+    /// Trace comes where that passes the limit: then the pair stands last in the reads, and the view is only taken apart.
+    pub fn get(&mut self, loc: &Loc) -> Result<Value, Halt>
+        ensures answer { IfOk result (λ value. (u : WorldData) → Showed B.seen self.old self.new u → At u loc.now ≡ value) }
+        ensures shape { IfOk result (λ value. is_of loc.now value ≡ true) }
+        ensures effects { self.new.effects ≡ self.old.effects }
+        ensures keeps { Keeps B.seen self.old self.new result }
+        ensures fault { result ≡ Err Halt.Fault → Rose (B.seen self.old.base).faults (B.seen self.new.base).faults }
+        ensures trace { (B.seen self.old.base).writes ≡ false → trace_size self.old.reads self.old.effects ≤ self.old.trace → (result ≡ Err Halt.Trace ↔ self.new.trace < trace_size self.new.reads self.new.effects) }
+        ensures through { (B.seen self.old.base).writes ≡ true → result ≢ Err Halt.Trace }
+        ensures spent { (k : SpentKind) → result ≢ Err (Halt.Spent k) }
+        ensures outside { result ≢ Err Halt.Outside }
+    {
+        let _size = &self.size;
+        self.fetch(loc)
+    }
+
+    /// Runs an outside program in the base's state. It adds no effect: what came of it is put by the caller.
+    pub fn ask(&mut self, argv: &TextList) -> Result<Reply, Halt>
+        ensures gained { Gained (B.seen self.old.base) (B.seen self.new.base) argv.now result }
+        ensures reads { self.new.reads ≡ self.old.reads }
+        ensures effects { self.new.effects ≡ self.old.effects }
+        ensures keeps { Keeps (quiet B.seen) self.old self.new result }
+        ensures fault { result ≡ Err Halt.Fault → Rose (B.seen self.old.base).faults (B.seen self.new.base).faults }
+        ensures outside { (result ≡ Err Halt.Outside) ↔ ((B.seen self.old.base).runs ≡ false) }
+        ensures turns { result ≢ Err (Halt.Spent SpentKind.Turns) }
+        ensures bytes { result ≢ Err (Halt.Spent SpentKind.Bytes) }
+        ensures frames { result ≢ Err (Halt.Spent SpentKind.Frames) }
+        ensures trace { result ≢ Err Halt.Trace }
+    {
+        self.base.ask(argv)
+    }
+
+    /// Takes the view apart. No location stands twice in the reads. Over a base that does not write the effects are valid, one
+    /// after another, in every state that passes the reads. It takes no memory.
+    pub fn into_trace(self) -> (B, Trace)
+        ensures base { result.0 ≡ self.base }
+        ensures reads { result.1.reads ≡ self.reads }
+        ensures effects { result.1.effects ≡ self.effects }
+        ensures fresh { Fresh self.reads }
+        ensures valid { (B.seen self.base).writes ≡ false → (w : WorldData) → IsTree w.tree → Passes self.reads w → AllValid self.effects w }
+    {
+        let View {
+            base,
+            reads,
+            effects,
+            trace: _,
+            size: _,
+        } = self;
+        (base, Trace { reads, effects })
+    }
+
+    /// What the base has at a location. Where it does not write, that is in the reads from then on.
+    fn fetch(&mut self, loc: &Loc) -> Result<Value, Halt>
+        ensures answer { IfOk result (λ value. (b : WorldData) → Stands (B.seen self.old.base) self.new.reads b → At b loc.now ≡ value) }
+        ensures shape { IfOk result (λ value. is_of loc.now value ≡ true) }
+        ensures effects { self.new.effects ≡ self.old.effects }
+        ensures keeps { Keeps B.seen self.old self.new result }
+        ensures fault { result ≡ Err Halt.Fault → Rose (B.seen self.old.base).faults (B.seen self.new.base).faults }
+        ensures trace { (B.seen self.old.base).writes ≡ false → trace_size self.old.reads self.old.effects ≤ self.old.trace → (result ≡ Err Halt.Trace ↔ self.new.trace < trace_size self.new.reads self.new.effects) }
+        ensures through { (B.seen self.old.base).writes ≡ true → result ≢ Err Halt.Trace }
+        ensures spent { (k : SpentKind) → result ≢ Err (Halt.Spent k) }
+        ensures outside { result ≢ Err Halt.Outside }
+    {
+        if self.base.writes() {
+            return self.fetch_now(loc);
+        }
+        self.fetch_once(loc)
+    }
+
+    fn fetch_now(&mut self, loc: &Loc) -> Result<Value, Halt>
+        requires writes { (B.seen self.old.base).writes ≡ true }
+        ensures answer { IfOk result (λ value. (b : WorldData) → Stands (B.seen self.old.base) self.new.reads b → At b loc.now ≡ value) }
+        ensures shape { IfOk result (λ value. is_of loc.now value ≡ true) }
+        ensures effects { self.new.effects ≡ self.old.effects }
+        ensures keeps { Keeps B.seen self.old self.new result }
+        ensures fault { result ≡ Err Halt.Fault → Rose (B.seen self.old.base).faults (B.seen self.new.base).faults }
+        ensures trace { result ≢ Err Halt.Trace }
+        ensures spent { (k : SpentKind) → result ≢ Err (Halt.Spent k) }
+        ensures outside { result ≢ Err Halt.Outside }
+    {
+        let value = self.base.get(loc)?;
+        Ok(value)
+    }
+
+    fn fetch_once(&mut self, loc: &Loc) -> Result<Value, Halt>
+        requires writes { (B.seen self.old.base).writes ≡ false }
+        ensures answer { IfOk result (λ value. (b : WorldData) → Stands (B.seen self.old.base) self.new.reads b → At b loc.now ≡ value) }
+        ensures shape { IfOk result (λ value. is_of loc.now value ≡ true) }
+        ensures effects { self.new.effects ≡ self.old.effects }
+        ensures keeps { Keeps B.seen self.old self.new result }
+        ensures fault { result ≡ Err Halt.Fault → Rose (B.seen self.old.base).faults (B.seen self.new.base).faults }
+        ensures trace { trace_size self.old.reads self.old.effects ≤ self.old.trace → (result ≡ Err Halt.Trace ↔ self.new.trace < trace_size self.new.reads self.new.effects) }
+        ensures spent { (k : SpentKind) → result ≢ Err (Halt.Spent k) }
+        ensures outside { result ≢ Err Halt.Outside }
+    {
+        if let Some(value) = self.reads.find(loc) {
+            return Ok(value.clone()?);
+        }
+        let value = read_base(&mut self.base, &mut self.reads, loc)?;
+        self.size = self.size.saturating_add(read_size(loc, &value));
+        unless_over(value, self.size > u128::from(self.trace))
+    }
+}
+
+/// Reads a location of the base for the first time, and records it.
+fn read_base<B: Base>(base: &mut B, reads: &mut Reads, loc: &Loc) -> Result<Value, Halt>
+    requires new { IsNew loc.now reads.old }
+    ensures read { IfOk result (λ value. reads.new ≡ reads.old ++ (loc.now, value) ∷ []) }
+    ensures unread { OnErr result (reads.new ≡ reads.old) }
+    ensures answer { IfOk result (λ value. IfSome (B.seen base.old).world (λ w. At w loc.now ≡ value)) }
+    ensures shape { IfOk result (λ value. is_of loc.now value ≡ true) }
+    ensures world { (B.seen base.new).world ≡ (B.seen base.old).world }
+    ensures asked { (B.seen base.new).asked ≡ (B.seen base.old).asked }
+    ensures writes { (B.seen base.new).writes ≡ (B.seen base.old).writes }
+    ensures runs { (B.seen base.new).runs ≡ (B.seen base.old).runs }
+    ensures later { (B.seen base.old).faults ≤ (B.seen base.new).faults }
+    ensures fault { result ≡ Err Halt.Fault → Rose (B.seen base.old).faults (B.seen base.new).faults }
+    ensures spent { (k : SpentKind) → result ≢ Err (Halt.Spent k) }
+    ensures trace { result ≢ Err Halt.Trace }
+    ensures outside { result ≢ Err Halt.Outside }
+{
+    let value = base.get(loc)?;
+    match recorded(reads, loc, value) {
+        Ok(value) => Ok(value),
+        Err(_) => Err(Halt::NoMemory),
+    }
+}
+
+/// Records a read, and gives the value back. Where there is no memory, the reads stay.
+fn recorded(reads: &mut Reads, loc: &Loc, value: Value) -> Result<Value, AllocError>
+    requires new { IsNew loc.now reads.old }
+    ensures ok { OnOk result (reads.new ≡ reads.old ++ (loc.now, value) ∷ []) }
+    ensures value { IfOk result (λ same. same ≡ value) }
+    ensures err { OnErr result (reads.new ≡ reads.old) }
+{
+    copy_read(reads, loc, &value)?;
+    Ok(value)
+}
+
+fn copy_read(reads: &mut Reads, loc: &Loc, value: &Value) -> Result<(), AllocError>
+    requires new { IsNew loc.now reads.old }
+    ensures ok { OnOk result (reads.new ≡ reads.old ++ (loc.now, value.now) ∷ []) }
+    ensures err { OnErr result (reads.new ≡ reads.old) }
+{
+    let (loc, value) = copied_read(loc, value)?;
+    reads.record(loc, value)
+}
+
+fn copied_read(loc: &Loc, value: &Value) -> Result<(Loc, Value), AllocError>
+    ensures { IfOk result (λ read. read ≡ (loc.now, value.now)) }
+{
+    let loc = loc.clone()?;
+    let value = value.clone()?;
+    Ok((loc, value))
+}
+
+fn unless_over(value: Value, over: bool) -> Result<Value, Halt>
+    ensures { result ≡ (if over then Err Halt.Trace else Ok value) }
+{
+    if over {
+        return Err(Halt::Trace);
+    }
+    Ok(value)
+}
