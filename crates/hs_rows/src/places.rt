@@ -429,3 +429,83 @@ fn routes_are_read_back(rt: HostRuntime) -> Result<(), Fail> {
     assert!(rt; holds(alloc, &ends_followed(alloc)?));
     Ok(())
 }
+
+// What goes again
+
+fn function_after_shell(alloc: Global) -> Result<Row, AllocError> {
+    let set = Effect::SetFunc(text(alloc, "f")?, 3);
+    Ok(Row {
+        effects: vec![in alloc; Effect::PushShell, set, Effect::PopShell]?,
+        loc: Loc::Func(text(alloc, "f")?),
+        value: Value::Func(None),
+    })
+}
+
+#[test]
+fn a_function_goes_with_its_shell(rt: HostRuntime) -> Result<(), Fail> {
+    let row = function_after_shell(rt.alloc())?;
+    assert!(rt; holds(rt.alloc(), &row));
+    Ok(())
+}
+
+fn descriptor_after_shell(alloc: Global) -> Result<Row, AllocError> {
+    let opened = Effect::SetKept(3, Some(text(alloc, "a")?));
+    Ok(Row {
+        effects: vec![in alloc; Effect::PushShell, opened, Effect::PopShell]?,
+        loc: Loc::Kept(3),
+        value: Value::Kept(None),
+    })
+}
+
+#[test]
+fn a_descriptor_goes_with_its_shell(rt: HostRuntime) -> Result<(), Fail> {
+    let row = descriptor_after_shell(rt.alloc())?;
+    assert!(rt; holds(rt.alloc(), &row));
+    Ok(())
+}
+
+fn folder_is_listed(alloc: Global) -> Result<Row, AllocError> {
+    Ok(Row {
+        effects: vec![in alloc; Effect::MakeDir(path(alloc, "/d")?)]?,
+        loc: Loc::Names(path(alloc, "/")?),
+        value: Value::Names(Some(list(alloc, &["d"])?)),
+    })
+}
+
+#[test]
+fn a_folder_is_listed(rt: HostRuntime) -> Result<(), Fail> {
+    let row = folder_is_listed(rt.alloc())?;
+    assert!(rt; holds(rt.alloc(), &row));
+    Ok(())
+}
+
+fn bytes_left(alloc: Global) -> Result<Row, AllocError> {
+    Ok(Row {
+        effects: vec![in alloc; replied(alloc)?]?,
+        loc: Loc::Bytes(path(alloc, "/o")?),
+        value: Value::Bytes(Some(text(alloc, "k")?)),
+    })
+}
+
+#[test]
+fn what_a_program_left_is_read_back(rt: HostRuntime) -> Result<(), Fail> {
+    let row = bytes_left(rt.alloc())?;
+    assert!(rt; holds(rt.alloc(), &row));
+    Ok(())
+}
+
+fn captured_no_more(alloc: Global) -> Result<Row, AllocError> {
+    let table = one_to(alloc, Route::Capture)?;
+    Ok(Row {
+        effects: vec![in alloc; Effect::PushRoutes(table), Effect::PopRoutes]?,
+        loc: Loc::Captured,
+        value: Value::Captured(Text::new(alloc)),
+    })
+}
+
+#[test]
+fn a_capture_goes_with_its_table(rt: HostRuntime) -> Result<(), Fail> {
+    let row = captured_no_more(rt.alloc())?;
+    assert!(rt; holds(rt.alloc(), &row));
+    Ok(())
+}
