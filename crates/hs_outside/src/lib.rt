@@ -6,7 +6,7 @@ mod outside;
 mod sending;
 
 pub use memory::{Calls, MemoryHost, MemorySink, MemorySource};
-pub use outside::{Failed, Host, Sink, Source};
+pub use outside::{Failed, Host, HostErr, Sink, Source};
 pub use sending::send;
 
 #[cfg(test)]

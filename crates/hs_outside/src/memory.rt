@@ -1,12 +1,14 @@
 //! Hosts, sources and sinks in memory. They tell what they hold, and fail at the calls that they are told to.
 
 ghost use Rattle.std.specs.Prelude.{◌≡◌, ◌↔◌, ◌<◌, ◌≤◌, ◌++◌, ◌-◌, ◌^◌, [], false, true, min, length, take, All, IfOk, IfSome, IsErrOf, IsTrue, Some};
-ghost use Rattle.hs_outside.specs.Causes.{HasCause, Rose};
+ghost use Rattle.hs_outside.specs.Causes.{HasCause, IsCaused, Rose};
+ghost use Rattle.hs_outside.specs.Hosts.{Loads};
 ghost use Rattle.hs_outside.specs.Memory.{after_call, fails};
 ghost use Rattle.hs_outside.specs.Streams.{Gives, appended, ended_by, given, prepended, taken};
 
-use crate::outside::{Failed, Host, Sink, Source};
+use crate::outside::{Failed, Host, HostErr, Sink, Source};
 use hs_text::Text;
+use hs_world::Tree;
 use std::alloc::{AllocError, Global};
 use std::marker::Model;
 
@@ -54,20 +56,64 @@ impl Calls {
     }
 }
 
-/// A host without files and programs.
+/// A host with these files.
 #[derive(Drop)]
 pub struct MemoryHost {
-    faults: u64,
+    tree: Tree,
+    calls: Calls,
+}
+
+impl Model for MemoryHost {
+    ghost use Rattle.hs_outside.specs.Memory.{HostData};
+    ghost use Rattle.hs_world.specs.Files.{files_code};
+    ghost use Rattle.std.specs.Coded.{codes};
+
+    ghost Value = { HostData };
+
+    ghost coded = { Prim.hlevel (codes, files_code) };
+
+    ghost view = { λ h. record { files = h.tree; calls = h.calls } };
 }
 
 impl MemoryHost {
-    pub fn new() -> MemoryHost {
-        MemoryHost { faults: 0 }
+    /// A host with these files. The calls with these numbers fail.
+    pub fn new(tree: Tree, failing: Vec<u64>) -> Result<MemoryHost, AllocError>
+        requires failing { All (λ n. n < 2 ^ 64 - 1) failing.items }
+        ensures { IfOk result (λ h. h ≡ record { files = tree; calls = record { failing = failing.items; made = 0; faults = 0 } }) }
+    {
+        Ok(MemoryHost {
+            tree,
+            calls: Calls::new(failing),
+        })
     }
 }
 
 impl Host for MemoryHost {
-    ghost faults = { λ h. h.faults };
+    ghost files = { λ h. Some h.files };
+
+    ghost faults = { λ h. h.calls.faults };
+
+    fn load(&mut self, alloc: Global) -> Result<Tree, HostErr>
+        ensures loads { Loads (Some self.old.files) result }
+        ensures files { Some self.new.files ≡ Some self.old.files }
+        ensures calls { self.new.calls ≡ after_call self.old.calls }
+        ensures fails { IsErrOf result HostErr.Fault ↔ (fails self.old.calls ≡ true) }
+        ensures cause { IsCaused self.old.calls.faults self.new.calls.faults result }
+    {
+        if self.calls.count() {
+            return Err(HostErr::Fault);
+        }
+        if self.tree.is_over() {
+            return Err(HostErr::TooLarge {
+                bytes: self.tree.bytes(),
+                entries: self.tree.len() as u64,
+            });
+        }
+        match self.tree.clone() {
+            Ok(tree) => Ok(tree),
+            Err(_) => Err(HostErr::NoMemory),
+        }
+    }
 }
 
 /// A sink that keeps what it takes.

@@ -4,10 +4,13 @@
 //! where it can be known, as by objects in memory; a real stream tells nothing.
 
 ghost use Rattle.std.specs.Prelude.{◌≡◌, ◌<◌, ◌≤◌, ℕ, Bool, List, Option, length, IfOk};
-ghost use Rattle.hs_outside.specs.Causes.{HasCause};
+ghost use Rattle.hs_outside.specs.Causes.{HasCause, IsCaused};
+ghost use Rattle.hs_outside.specs.Hosts.{Loads};
 ghost use Rattle.hs_outside.specs.Streams.{Gives, appended, ended_by, given, prepended, taken};
+ghost use Rattle.hs_world.specs.Files.{Files};
 
 use hs_text::Text;
+use hs_world::Tree;
 use std::alloc::Global;
 use thiserror::Error;
 
@@ -20,10 +23,32 @@ pub enum Failed {
     Fault,
 }
 
-/// The files and programs of the machine. No call of it is needed yet.
+/// Why a host did not do what it was asked.
+#[derive(Clone, Copy, Debug, PartialEq, Eq, Error)]
+pub enum HostErr {
+    #[error("out of memory")]
+    NoMemory,
+    #[error("the host failed")]
+    Fault,
+    /// The files pass the limit of a tree: their bytes together, or 2^64 - 1 where they are more, and the number of entries
+    /// without the root.
+    #[error("the tree is too large")]
+    TooLarge { bytes: u64, entries: u64 },
+}
+
+/// The files of the machine.
 pub trait Host {
+    /// The files.
+    ghost files: { Self → Option Files };
+
     /// How often the host has failed.
     ghost faults: { Self → ℕ };
+
+    /// All files. TooLarge comes exactly where they pass the limit of a tree.
+    fn load(&mut self, alloc: Global) -> Result<Tree, HostErr>
+        ensures loads { Loads (files self.old) result }
+        ensures files { files self.new ≡ files self.old }
+        ensures cause { IsCaused (faults self.old) (faults self.new) result };
 }
 
 /// Standard input.
