@@ -254,6 +254,7 @@ plain-complete out err script w turns s t (ending.Syntax line fault) report r wa
 plain-complete out err script w turns s t ending.Unbuilt report r wanted e no-out no-err = absurd r
 plain-complete out err script w turns s t (ending.Spent kind) report r wanted e no-out no-err =
     let two : run.Stopped (Ran_out kind) ≡ run.Done wanted = r.0 ∙ e in absurd cc
+plain-complete out err script w turns s t ending.HostFault report r wanted e no-out no-err = absurd r
 plain-complete out err script w turns s t ending.OutFault report (done, r) wanted e no-out no-err = absurd (faulted r.state)
   where
     faulted : IsFault out err done w (Applied done w) s t → ⊥

@@ -1,5 +1,8 @@
 -- The whole program.
 use Rattle.std.proofs.Common.{◌≡◌, ℕ, List, [], ◌∷◌, ◌++◌, Option, Some, None, Bool, true, false, T, Result, Ok, Err, OnOk, OnErr, inl, inr, refl, sym, ap, subst, ◌∙◌, ◌≤◌, ◌<◌, ◌⊎◌, zero, suc, length, get_or, arith}
+use Rattle.hs_world.specs.Files.{Files, is_over}
+use Rattle.sh_leaf.specs.declared.spent.SpentKind.{SpentKind}
+use Rattle.sh_leaf.specs.declared.spent.SpentKind.TheVariants as kind
 use Rattle.hs_outside.specs.Streams.{appended, IsCut}
 use Rattle.hs_outside.specs.declared.outside.Failed.{Failed}
 use Rattle.hs_main.specs.declared.ending.Ending.{Ending}
@@ -12,7 +15,7 @@ use Rattle.sh_leaf.specs.Run.{Serial}
 use Rattle.sh_leaf.specs.Built.{is_built}
 use Rattle.sh_syntax.specs.declared.fault.Fault.{Fault}
 use Rattle.hs_main.specs.Ending.{IsTold}
-use Rattle.hs_main.specs.Top.{Asks, start, default_turns, IsRefused, IsUnbuilt, Parsed, IsScriptOf, Finds, IsEnded, AskNothing, IsRun, RunsWords, IsCompleteFor, no_report}
+use Rattle.hs_main.specs.Top.{Asks, start, default_turns, IsRefused, IsUnbuilt, Parsed, IsScriptOf, Finds, FilesOf, IsLoaded, IsTooLarge, IsFailed, IsEnded, AskNothing, IsRun, RunsWords, IsCompleteFor, no_report}
 use Rattle.hs_world.specs.World.{WorldData, Applied}
 use Rattle.sh_syntax.specs.declared.tree.Script.{Script}
 use Rattle.sh_grammar.specs.Spells.{Spells}
@@ -20,28 +23,49 @@ use Rattle.sh_script.specs.Answers.{Answers, IsBad, too_long}
 use Rattle.sh_script.specs.Longest.{longest}
 use Rattle.sh_script.specs.declared.error.ParseErr.{ParseErr}
 use Rattle.sh_script.specs.declared.error.ParseErr.TheVariants as err
-use Rattle.std.specs.Prelude.{codes}
+use Rattle.std.specs.Prelude.{codes, IfSome}
 
--- a run never ends as unbuilt, or by a syntax error
-pub run-ran : (out err : Type 0) (words : List (List ℕ)) (s t : Streams) (ends : Ending) (report : Report) → IsRun out err words s t ends report → RunsWords out err words s t ends report
-run-ran out err words s t (ending.Done status) report r = r
-run-ran out err words s t (ending.Syntax line fault) report r = absurd r.runs
-run-ran out err words s t ending.Unbuilt report r = absurd r.runs
-run-ran out err words s t ending.OutFault report r = r
-run-ran out err words s t (ending.Spent kind) report r = r
-run-ran out err words s t ending.NoMemory report r = inr r
+-- a run never ends as unbuilt, by a syntax error, or by a fault of the host
+pub run-ran : (host out err : Type 0) (told : Option Files) (words : List (List ℕ)) (s t : Streams) (ends : Ending) (report : Report) →
+    IsRun out err told words s t ends report → RunsWords host out err told words s t ends report
+run-ran host out err told words s t (ending.Done status) report r = r
+run-ran host out err told words s t (ending.Syntax line fault) report r = absurd r.runs
+run-ran host out err told words s t ending.Unbuilt report r = absurd r.runs
+run-ran host out err told words s t ending.OutFault report r = r
+run-ran host out err told words s t ending.HostFault report r = absurd r.runs
+run-ran host out err told words s t (ending.Spent kind.Turns) report r = r
+run-ran host out err told words s t (ending.Spent kind.Bytes) report r = r
+run-ran host out err told words s t (ending.Spent kind.Tree) report r = inr r
+run-ran host out err told words s t ending.NoMemory report r = inr r
 
-pub run-of : (out err : Type 0) (words : List (List ℕ)) (text text' : List ℕ) (s t : Streams) (ends : Ending) (report : Report) (script script' : Script) (w : WorldData) →
-    Asks words text → text' ≡ text → IsScriptOf script text' × (is_built script ≡ true) → script' ≡ script → w ≡ start → Runs out err script' w default_turns s t ends report →
-    RunsWords out err words s t ends report
-run-of out err words text text' s t ends report script script' w asks same (found, built) is from runs = run-ran out err words s t ends report (record {
+pub run-of : (host out err : Type 0) (told : Option Files) (words : List (List ℕ)) (text text' : List ℕ) (s t : Streams) (ends : Ending) (report : Report) (script script' : Script) (w : WorldData) (files : Files) →
+    Asks words text → text' ≡ text → IsLoaded told files → IsScriptOf script text' × (is_built script ≡ true) → script' ≡ script → w ≡ start files → Runs out err script' w default_turns s t ends report →
+    RunsWords host out err told words s t ends report
+run-of host out err told words text text' s t ends report script script' w files asks same loaded (found, built) is from runs = run-ran host out err told words s t ends report (record {
   text = text';
   asks = subst (λ (x : List ℕ). Asks words x) (sym same) asks;
+  files = files;
+  loaded = loaded;
   script = script;
   found = found;
   built = built;
   runs = subst (λ (v : WorldData). Runs out err script v default_turns s t ends report) from (subst (λ (x : Script). Runs out err x w default_turns s t ends report) is runs);
 })
+
+-- files that can't be loaded
+pub unloaded-of : (host host' out err : Type 0) (told : Option Files) (words : List (List ℕ)) (text : List ℕ) (s : Streams) (ends : Ending) → (host → host') →
+    Asks words text → FilesOf host told (Err ends) → RunsWords host' out err told words s s ends no_report
+unloaded-of host host' out err told words text s (ending.Done status) f asks files = absurd files
+unloaded-of host host' out err told words text s (ending.Syntax line fault) f asks files = absurd files
+unloaded-of host host' out err told words text s ending.Unbuilt f asks files = absurd files
+unloaded-of host host' out err told words text s ending.OutFault f asks files = absurd files
+unloaded-of host host' out err told words text s ending.HostFault f asks files =
+    (record { text = text; asks = asks; rose = f files }, record { report_is = refl; streams = refl })
+unloaded-of host host' out err told words text s (ending.Spent kind.Turns) f asks files = absurd files
+unloaded-of host host' out err told words text s (ending.Spent kind.Bytes) f asks files = absurd files
+unloaded-of host host' out err told words text s (ending.Spent kind.Tree) f asks files =
+    inl (record { text = text; asks = asks; over = files }, record { report_is = refl; streams = refl })
+unloaded-of host host' out err told words text s ending.NoMemory f asks files = inl (record { report_is = refl; streams = refl })
 
 -- ---- reading a text
 
@@ -72,16 +96,22 @@ pub unbuilt_of : (text : List ℕ) (script : Script) → IsScriptOf script text 
 unbuilt_of text script found unbuilt = record { script = script; found = found; unbuilt = unbuilt }
 
 -- a text that ends without a run
-pub unrun-of : (out err : Type 0) (words : List (List ℕ)) (text text' : List ℕ) (s : Streams) (ends : Ending) →
-    Asks words text → text' ≡ text → Finds (Err ends) text' → RunsWords out err words s s ends no_report
-unrun-of out err words text text' s (ending.Done status) asks same finds = absurd finds
-unrun-of out err words text text' s (ending.Syntax line fault) asks same finds =
-    (record { text = text'; asks = subst (λ (x : List ℕ). Asks words x) (sym same) asks; finds = finds }, record { report_is = refl; streams = refl })
-unrun-of out err words text text' s ending.Unbuilt asks same finds =
-    (inr (record { text = text'; asks = subst (λ (x : List ℕ). Asks words x) (sym same) asks; finds = finds }), record { report_is = refl; streams = refl })
-unrun-of out err words text text' s ending.OutFault asks same finds = absurd finds
-unrun-of out err words text text' s (ending.Spent kind) asks same finds = absurd finds
-unrun-of out err words text text' s ending.NoMemory asks same finds = inl (record { report_is = refl; streams = refl })
+pub unrun_of : (host out err : Type 0) (told : Option Files) (words : List (List ℕ)) (text text' : List ℕ) (s : Streams) (ends : Ending) (files : Files) →
+    Asks words text → text' ≡ text → IsLoaded told files → Finds (Err ends) text' → RunsWords host out err told words s s ends no_report
+unrun_of host out err told words text text' s (ending.Done status) files asks same loaded finds = absurd finds
+unrun_of host out err told words text text' s (ending.Syntax line fault) files asks same loaded finds =
+    (record { text = text'; asks = subst (λ (x : List ℕ). Asks words x) (sym same) asks; files = files; loaded = loaded; finds = finds }, record { report_is = refl; streams = refl })
+unrun_of host out err told words text text' s ending.Unbuilt files asks same loaded finds =
+    (inr (record { text = text'; asks = subst (λ (x : List ℕ). Asks words x) (sym same) asks; files = files; loaded = loaded; finds = finds }), record { report_is = refl; streams = refl })
+unrun_of host out err told words text text' s ending.OutFault files asks same loaded finds = absurd finds
+unrun_of host out err told words text text' s ending.HostFault files asks same loaded finds = absurd finds
+unrun_of host out err told words text text' s (ending.Spent kind) files asks same loaded finds = absurd finds
+unrun_of host out err told words text text' s ending.NoMemory files asks same loaded finds = inl (record { report_is = refl; streams = refl })
+
+pub unrun_told : (host out err : Type 0) (told : Option Files) (words : List (List ℕ)) (text text' : List ℕ) (s : Streams) (ends : Ending) (report : Report) (files : Files) →
+    Asks words text → text' ≡ text → IsLoaded told files → Finds (Err ends) text' → report ≡ no_report → RunsWords host out err told words s s ends report
+unrun_told host out err told words text text' s ends report files asks same loaded finds is =
+    subst (λ (r : Report). RunsWords host out err told words s s ends r) (sym is) (unrun_of host out err told words text text' s ends files asks same loaded finds)
 
 one-text : (a b c : List ℕ) → a ∷ b ∷ [] ≡ a ∷ c ∷ [] → b ≡ c
 one-text a b c e = cc
@@ -110,6 +140,7 @@ runs-later : (out err err' : Type 0) (script : Script) (w : WorldData) (turns : 
 runs-later out err err' script w turns s t (ending.Done status) report f r = r
 runs-later out err err' script w turns s t (ending.Syntax line fault) report f r = r
 runs-later out err err' script w turns s t ending.Unbuilt report f r = r
+runs-later out err err' script w turns s t ending.HostFault report f r = absurd r
 runs-later out err err' script w turns s t (ending.Spent kind) report f r = r
 runs-later out err err' script w turns s t ending.NoMemory report f r = r
 runs-later out err err' script w turns s t ending.OutFault report f (done, stopped) =
@@ -119,26 +150,32 @@ runs-later out err err' script w turns s t ending.OutFault report f (done, stopp
     later (inl x) = inl x
     later (inr (e, d)) = inr (f e, d)
 
-run-later : (out err err' : Type 0) (words : List (List ℕ)) (s t : Streams) (ends : Ending) (report : Report) → (err → err') →
-    IsRun out err words s t ends report → IsRun out err' words s t ends report
-run-later out err err' words s t ends report f r = record {
+run-later : (out err err' : Type 0) (told : Option Files) (words : List (List ℕ)) (s t : Streams) (ends : Ending) (report : Report) → (err → err') →
+    IsRun out err told words s t ends report → IsRun out err' told words s t ends report
+run-later out err err' told words s t ends report f r = record {
   text = r.text;
   asks = r.asks;
+  files = r.files;
+  loaded = r.loaded;
   script = r.script;
   found = r.found;
   built = r.built;
-  runs = runs-later out err err' r.script start default_turns s t ends report f r.runs;
+  runs = runs-later out err err' r.script (start r.files) default_turns s t ends report f r.runs;
 }
 
-pub words-later : (out err err' : Type 0) (words : List (List ℕ)) (s t : Streams) (ends : Ending) (report : Report) → (err → err') →
-    RunsWords out err words s t ends report → RunsWords out err' words s t ends report
-words-later out err err' words s t (ending.Done status) report f r = run-later out err err' words s t (ending.Done status) report f r
-words-later out err err' words s t (ending.Syntax line fault) report f r = r
-words-later out err err' words s t ending.Unbuilt report f r = r
-words-later out err err' words s t (ending.Spent kind) report f r = run-later out err err' words s t (ending.Spent kind) report f r
-words-later out err err' words s t ending.OutFault report f r = run-later out err err' words s t ending.OutFault report f r
-words-later out err err' words s t ending.NoMemory report f (inl r) = inl r
-words-later out err err' words s t ending.NoMemory report f (inr r) = inr (run-later out err err' words s t ending.NoMemory report f r)
+pub words-later : (host out err err' : Type 0) (told : Option Files) (words : List (List ℕ)) (s t : Streams) (ends : Ending) (report : Report) → (err → err') →
+    RunsWords host out err told words s t ends report → RunsWords host out err' told words s t ends report
+words-later host out err err' told words s t (ending.Done status) report f r = run-later out err err' told words s t (ending.Done status) report f r
+words-later host out err err' told words s t (ending.Syntax line fault) report f r = r
+words-later host out err err' told words s t ending.Unbuilt report f r = r
+words-later host out err err' told words s t ending.HostFault report f r = r
+words-later host out err err' told words s t (ending.Spent kind.Turns) report f r = run-later out err err' told words s t (ending.Spent kind.Turns) report f r
+words-later host out err err' told words s t (ending.Spent kind.Bytes) report f r = run-later out err err' told words s t (ending.Spent kind.Bytes) report f r
+words-later host out err err' told words s t (ending.Spent kind.Tree) report f (inl r) = inl r
+words-later host out err err' told words s t (ending.Spent kind.Tree) report f (inr r) = inr (run-later out err err' told words s t (ending.Spent kind.Tree) report f r)
+words-later host out err err' told words s t ending.OutFault report f r = run-later out err err' told words s t ending.OutFault report f r
+words-later host out err err' told words s t ending.NoMemory report f (inl r) = inl r
+words-later host out err err' told words s t ending.NoMemory report f (inr r) = inr (run-later out err err' told words s t ending.NoMemory report f r)
 
 -- ---- two words
 
@@ -154,24 +191,42 @@ two-words (x ∷ y ∷ z ∷ rest) a b least most is-a is-b = absurd (omega arit
 one-asked : (words : List (List ℕ)) (a b : List ℕ) → Asks words a → Asks words b → a ≡ b
 one-asked words a b asks asks' = one-text (codes "-c") a b (sym asks ∙ asks')
 
-run-complete : (out err : Type 0) (words : List (List ℕ)) (s t : Streams) (ends : Ending) (report : Report) → IsRun out err words s t ends report → IsCompleteFor out err words ends
-run-complete out err words s t ends report r text script asks found built =
+told-is : (told : Option Files) (a b : Files) → IfSome told (λ f. a ≡ f) → told ≡ Some b → a ≡ b
+told-is None a b is e = absurd cc
+told-is (Some f) a b is e = let same : f ≡ b = cc in is ∙ same
+
+run-complete : (host out err : Type 0) (told : Option Files) (words : List (List ℕ)) (s t : Streams) (ends : Ending) (report : Report) → IsRun out err told words s t ends report →
+    IsCompleteFor host out err told words ends
+run-complete host out err told words s t ends report r text script files asks found built is within no-host =
     let same : r.script ≡ script = found.is.only r.script (subst (λ (x : List ℕ). Spells r.script x) (sym (one-asked words text r.text asks r.asks)) r.found.is.spelled) in
-    subst (λ (x : Script). IsComplete out err (Serial x start default_turns) ends) same (plain-complete out err r.script start default_turns s t ends report r.runs)
+    let over : r.files ≡ files = told-is told r.files files r.loaded.is is in
+    subst (λ (f : Files). IsComplete out err (Serial script (start f) default_turns) ends) over
+    (subst (λ (x : Script). IsComplete out err (Serial x (start r.files) default_turns) ends) same (plain-complete out err r.script (start r.files) default_turns s t ends report r.runs))
+
+-- files within the limit do not pass it
+within-over : (told : Option Files) (files : Files) → IfSome told (λ f. is_over f ≡ true) → told ≡ Some files → is_over files ≡ false → ⊥
+within-over None files over e within = absurd cc
+within-over (Some f) files over e within = let same : f ≡ files = cc in subst T (sym over ∙ ap is_over same ∙ within) tt
 
 refused-spells_none : (text : List ℕ) (line : ℕ) (fault : Fault) (script : Script) → IsRefused text line fault → IsScriptOf script text → ⊥
 refused-spells_none text line fault script (inl (long, e, f)) found = absurd (omega (arith, long, found.short))
 refused-spells_none text line fault script (inr (short, bad)) found = bad.none script found.is.spelled
 
-pub words-complete : (out err : Type 0) (words : List (List ℕ)) (s t : Streams) (ends : Ending) (report : Report) → RunsWords out err words s t ends report → IsCompleteFor out err words ends
-words-complete out err words s t (ending.Done status) report r = run-complete out err words s t (ending.Done status) report r
-words-complete out err words s t (ending.Spent kind) report r = run-complete out err words s t (ending.Spent kind) report r
-words-complete out err words s t ending.OutFault report r = run-complete out err words s t ending.OutFault report r
-words-complete out err words s t (ending.Syntax line fault) report (e, u) = λ text script asks found built.
+pub words-complete : (host out err : Type 0) (told : Option Files) (words : List (List ℕ)) (s t : Streams) (ends : Ending) (report : Report) →
+    RunsWords host out err told words s t ends report → IsCompleteFor host out err told words ends
+words-complete host out err told words s t (ending.Done status) report r = run-complete host out err told words s t (ending.Done status) report r
+words-complete host out err told words s t (ending.Spent kind.Turns) report r = run-complete host out err told words s t (ending.Spent kind.Turns) report r
+words-complete host out err told words s t (ending.Spent kind.Bytes) report r = run-complete host out err told words s t (ending.Spent kind.Bytes) report r
+words-complete host out err told words s t (ending.Spent kind.Tree) report (inl (r, u)) = λ text script files asks found built is within no-host.
+    absurd (within-over told files r.over is within)
+words-complete host out err told words s t (ending.Spent kind.Tree) report (inr r) = run-complete host out err told words s t (ending.Spent kind.Tree) report r
+words-complete host out err told words s t ending.OutFault report r = run-complete host out err told words s t ending.OutFault report r
+words-complete host out err told words s t ending.HostFault report (r, u) = λ text script files asks found built is within no-host. absurd (no-host r.rose)
+words-complete host out err told words s t (ending.Syntax line fault) report (e, u) = λ text script files asks found built is within no-host.
     absurd (refused-spells_none text line fault script (subst (λ (x : List ℕ). IsRefused x line fault) (one-asked words e.text text e.asks asks) e.finds) found)
-words-complete out err words s t ending.Unbuilt report (inl none, u) = λ text script asks found built. absurd (none text asks)
-words-complete out err words s t ending.Unbuilt report (inr e, none) = λ text script asks found built.
+words-complete host out err told words s t ending.Unbuilt report (inl none, u) = λ text script files asks found built is within no-host. absurd (none text asks)
+words-complete host out err told words s t ending.Unbuilt report (inr e, none) = λ text script files asks found built is within no-host.
     let u : IsUnbuilt text = subst IsUnbuilt (one-asked words e.text text e.asks asks) e.finds in
     let same : u.script ≡ script = found.is.only u.script u.found.is.spelled in
     absurd (subst T (sym (ap is_built same) ∙ u.unbuilt) (subst T (sym built) tt))
-words-complete out err words s t ending.NoMemory report r = λ text script asks found built status e no-out no-err. inr refl
+words-complete host out err told words s t ending.NoMemory report r = λ text script files asks found built is within no-host status e no-out no-err. inr refl

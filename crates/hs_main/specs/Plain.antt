@@ -44,6 +44,7 @@ Runs out err script w turns old new ending.NoMemory report =
     (done : List Effect) × IsStopped done (Serial script w turns) w report (λ w'. IsWant done w w' old new)
 Runs out err script w turns old new (ending.Syntax line fault) report = ⊥
 Runs out err script w turns old new ending.Unbuilt report = ⊥
+Runs out err script w turns old new ending.HostFault report = ⊥
 
 -- Where the serial meaning runs to the script's end and no count of faults rose, so does the run, if memory suffices.
 abbrev pub IsComplete : (out err : Type 0) → Row → Ending → Type 0

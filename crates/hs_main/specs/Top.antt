@@ -1,6 +1,6 @@
 -- What the whole program does.
-use Rattle.std.specs.Prelude.{◌≡◌, ◌⊎◌, ℕ, ◌≤◌, List, [], ◌∷◌, ◌++◌, ◌<◌, false, true, Result, Ok, Err, length, codes}
-use Rattle.std.specs.FinMap.{empty}
+use Rattle.std.specs.Prelude.{◌≡◌, ◌⊎◌, ℕ, ◌≤◌, List, [], ◌∷◌, ◌++◌, ◌<◌, false, true, Option, Some, Result, Ok, Err, IfSome, length, codes}
+use Rattle.hs_world.specs.Files.{Files, is_over}
 use Rattle.hs_world.specs.World.{WorldData, new_world}
 use Rattle.hs_outside.specs.Streams.{appended}
 use Rattle.sh_syntax.specs.declared.tree.Script.{Script}
@@ -17,6 +17,7 @@ use Rattle.hs_main.specs.declared.ending.Report.{Report}
 use Rattle.hs_main.specs.Ending.{line_of, IsTold}
 use Rattle.hs_main.specs.Commit.{Streams}
 use Rattle.sh_leaf.specs.Run.{Serial}
+use Rattle.sh_leaf.specs.declared.spent.SpentKind.TheVariants.{Tree}
 use Rattle.hs_main.specs.Plain.{Runs, IsComplete}
 
 -- ---- the words (POSIX.1-2017, XCU, sh: the option -c)
@@ -58,8 +59,22 @@ Finds (Err _) text = ⊥
 abbrev pub default_turns : ℕ
 default_turns = 1000000
 
-abbrev pub start : WorldData
-start = new_world empty [] (codes "hs") [] [] (record { bytes = 16777216; turns = default_turns })
+-- over the loaded files
+abbrev pub start : Files → WorldData
+start files = new_world files [] (codes "hs") [] [] (record { bytes = 16777216; turns = default_turns })
+
+-- These are the host's files, where it tells them, and they are within the limit of a tree.
+pub record IsLoaded (told : Option Files) (files : Files) : Type 0 where
+  pub is : IfSome told (λ f. files ≡ f)
+  pub within : is_over files ≡ false
+
+-- What loading the files comes to: they are there, or an ending without a run. `host` says that the host's count of faults rose.
+abbrev pub FilesOf : (host : Type 0) → Option Files → Result Files Ending → Type 0
+FilesOf host told (Ok files) = IsLoaded told files
+FilesOf host told (Err ending.HostFault) = host
+FilesOf host told (Err (ending.Spent Tree)) = IfSome told (λ f. is_over f ≡ true)
+FilesOf host told (Err ending.NoMemory) = Unit {0}
+FilesOf host told (Err _) = ⊥
 
 abbrev pub no_report : Report
 no_report = record { head = 0; turns = 0; count = 0 }
@@ -75,39 +90,59 @@ pub record IsUnrun (report : Report) (old new : Streams) : Type 0 where
   pub report_is : report ≡ no_report
   pub streams : new ≡ old
 
--- The words hand over a script, which ran.
-pub record IsRun (out err : Type 0) (words : List (List ℕ)) (old new : Streams) (ends : Ending) (report : Report) : Type 0 where
+-- The words hand over a script, which ran over the loaded files.
+pub record IsRun (out err : Type 0) (told : Option Files) (words : List (List ℕ)) (old new : Streams) (ends : Ending) (report : Report) : Type 0 where
   pub text : List ℕ
   pub asks : Asks words text
+  pub files : Files
+  pub loaded : IsLoaded told files
   pub script : Script
   pub found : IsScriptOf script text
   pub built : is_built script ≡ true
-  pub runs : Runs out err script start default_turns old new ends report
+  pub runs : Runs out err script (start files) default_turns old new ends report
 
--- The words hand over a text, which ends without a run.
-pub record IsEnded (words : List (List ℕ)) (ends : Ending) : Type 0 where
+-- The words hand over a text, which ends without a run once the files were loaded.
+pub record IsEnded (told : Option Files) (words : List (List ℕ)) (ends : Ending) : Type 0 where
   pub text : List ℕ
   pub asks : Asks words text
+  pub files : Files
+  pub loaded : IsLoaded told files
   pub finds : Finds (Err ends) text
 
 -- the words hand over no text
 abbrev pub AskNothing : List (List ℕ) → Type 0
 AskNothing words = (text : List ℕ) → Asks words text → ⊥
 
--- What the words come to: they hand over no text, or one that ends without a run, or a script that runs.
-abbrev pub RunsWords : (out err : Type 0) → List (List ℕ) → Streams → Streams → Ending → Report → Type 0
-RunsWords out err words old new ending.Unbuilt report = (AskNothing words ⊎ IsEnded words ending.Unbuilt) × IsUnrun report old new
-RunsWords out err words old new (ending.Syntax line fault) report = IsEnded words (ending.Syntax line fault) × IsUnrun report old new
-RunsWords out err words old new ending.NoMemory report = IsUnrun report old new ⊎ IsRun out err words old new ending.NoMemory report
-RunsWords out err words old new ends report = IsRun out err words old new ends report
+-- The words hand over a text, and the host's files pass the limit of a tree.
+pub record IsTooLarge (told : Option Files) (words : List (List ℕ)) : Type 0 where
+  pub text : List ℕ
+  pub asks : Asks words text
+  pub over : IfSome told (λ f. is_over f ≡ true)
+
+-- The words hand over a text, and the host failed.
+pub record IsFailed (host : Type 0) (words : List (List ℕ)) : Type 0 where
+  pub text : List ℕ
+  pub asks : Asks words text
+  pub rose : host
+
+-- What the words come to: they hand over no text, or one for which the files can't be loaded, or one that ends without a run, or a
+-- script that runs. `host`, `out` and `err` say that the counts of faults rose.
+abbrev pub RunsWords : (host out err : Type 0) → Option Files → List (List ℕ) → Streams → Streams → Ending → Report → Type 0
+RunsWords host out err told words old new ending.Unbuilt report = (AskNothing words ⊎ IsEnded told words ending.Unbuilt) × IsUnrun report old new
+RunsWords host out err told words old new (ending.Syntax line fault) report = IsEnded told words (ending.Syntax line fault) × IsUnrun report old new
+RunsWords host out err told words old new ending.HostFault report = IsFailed host words × IsUnrun report old new
+RunsWords host out err told words old new (ending.Spent Tree) report =
+    (IsTooLarge told words × IsUnrun report old new) ⊎ IsRun out err told words old new (ending.Spent Tree) report
+RunsWords host out err told words old new ending.NoMemory report = IsUnrun report old new ⊎ IsRun out err told words old new ending.NoMemory report
+RunsWords host out err told words old new ends report = IsRun out err told words old new ends report
 
 -- Then the line that says how it ended is tried on standard error.
-pub record Tops (out err : Type 0) (words : List (List ℕ)) (old new : Streams) (ends : Ending) (report : Report) : Type 0 where
+pub record Tops (host out err : Type 0) (told : Option Files) (words : List (List ℕ)) (old new : Streams) (ends : Ending) (report : Report) : Type 0 where
   pub ran : Streams
-  pub runs : RunsWords out err words old ran ends report
+  pub runs : RunsWords host out err told words old ran ends report
   pub line : IsLine (line_of ends) ran new
 
--- Where the words hand over a script that is built, its run is complete.
-abbrev pub IsCompleteFor : (out err : Type 0) → List (List ℕ) → Ending → Type 0
-IsCompleteFor out err words ends = (text : List ℕ) (script : Script) → Asks words text → IsScriptOf script text → is_built script ≡ true →
-    IsComplete out err (Serial script start default_turns) ends
+-- Where the words hand over a script that is built, and the host tells files within the limit and does not fail, its run is complete.
+abbrev pub IsCompleteFor : (host out err : Type 0) → Option Files → List (List ℕ) → Ending → Type 0
+IsCompleteFor host out err told words ends = (text : List ℕ) (script : Script) (files : Files) → Asks words text → IsScriptOf script text → is_built script ≡ true →
+    told ≡ Some files → is_over files ≡ false → (host → ⊥) → IsComplete out err (Serial script (start files) default_turns) ends

@@ -1,7 +1,7 @@
 //! How a run ends, and what is told of it.
 
 ghost use Rattle.std.specs.Prelude.{◌≡◌, IfOk};
-ghost use Rattle.hs_main.specs.Ending.{line_of, status_of, syntax_line_of};
+ghost use Rattle.hs_main.specs.Ending.{fixed_line_of, status_of, syntax_line_of};
 
 use itoa::Buffer;
 use sh_leaf::SpentKind;
@@ -18,6 +18,8 @@ pub enum Ending {
     Unbuilt,
     /// A write to standard output or standard error failed.
     OutFault,
+    /// The host failed.
+    HostFault,
     /// The run used up what it was given.
     Spent(SpentKind),
     NoMemory,
@@ -32,36 +34,33 @@ impl Ending {
             Ending::Done(status) => status,
             Ending::Syntax { .. } => 2,
             Ending::OutFault => 121,
+            Ending::HostFault => 122,
             Ending::Unbuilt => 123,
             Ending::Spent(_) => 124,
             Ending::NoMemory => 125,
         }
     }
 
-    /// The line for standard error; empty where the script ran to its end.
-    pub fn line(self, alloc: Global) -> Result<Vec<u8>, AllocError>
-        ensures { IfOk result (λ line. line.items ≡ line_of self) }
+    /// The line for standard error, where it has no number in it. It takes no memory.
+    pub fn fixed_line(self) -> &'static [u8]
+        ensures { result.now ≡ fixed_line_of self }
     {
         match self {
-            Ending::Done(_) => Ok(Vec::new(alloc)),
-            Ending::Syntax { line, .. } => syntax_line(alloc, line),
-            Ending::Unbuilt => Vec::from_slice(alloc, b"hs: not built yet\n"),
-            Ending::OutFault => Vec::from_slice(alloc, b"hs: output failed\n"),
-            Ending::Spent(SpentKind::Turns) => {
-                Vec::from_slice(alloc, b"hs: budget spent: turns\n")
-            }
-            Ending::Spent(SpentKind::Bytes) => {
-                Vec::from_slice(alloc, b"hs: budget spent: bytes\n")
-            }
-            Ending::Spent(SpentKind::Tree) => {
-                Vec::from_slice(alloc, b"hs: budget spent: tree\n")
-            }
-            Ending::NoMemory => Vec::from_slice(alloc, b"hs: out of memory\n"),
+            Ending::Done(_) => b"",
+            Ending::Syntax { .. } => b"",
+            Ending::OutFault => b"hs: output failed\n",
+            Ending::HostFault => b"hs: tree failed\n",
+            Ending::Unbuilt => b"hs: not built yet\n",
+            Ending::Spent(SpentKind::Turns) => b"hs: budget spent: turns\n",
+            Ending::Spent(SpentKind::Bytes) => b"hs: budget spent: bytes\n",
+            Ending::Spent(SpentKind::Tree) => b"hs: budget spent: tree\n",
+            Ending::NoMemory => b"hs: out of memory\n",
         }
     }
 }
 
-fn syntax_line(alloc: Global, line: u32) -> Result<Vec<u8>, AllocError>
+/// The line for a text that spells no script.
+pub fn syntax_line(alloc: Global, line: u32) -> Result<Vec<u8>, AllocError>
     ensures { IfOk result (λ text. text.items ≡ syntax_line_of line) }
 {
     let mut digits = Buffer::new();

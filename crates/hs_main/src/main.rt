@@ -13,6 +13,7 @@ mod top;
 use gate::NoGate;
 use hs_outside::MemoryHost;
 use hs_text::Text;
+use hs_world::Tree;
 use std::alloc::{AllocError, Global};
 use std::io::ErrorKind;
 use std::process::ExitCode;
@@ -59,11 +60,15 @@ fn main(rt: HostRuntime) -> ExitCode {
             return ExitCode::from(2);
         }
     };
+    let Ok(mut host) = MemoryHost::new(Tree::new(rt.alloc()), Vec::new(rt.alloc())) else {
+        let _ = rt.eprintln("hs: out of memory");
+        return ExitCode::from(125);
+    };
     let answer = top(
         rt.alloc(),
         &words,
         &[],
-        &mut MemoryHost::new(),
+        &mut host,
         &mut StreamSource::new(rt.stdin().lock()),
         &mut StreamSink::new(rt.stdout()),
         &mut StreamSink::new(rt.stderr()),

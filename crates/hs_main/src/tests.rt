@@ -6,7 +6,7 @@ use crate::run::plain;
 use crate::top::top;
 use hs_outside::{MemoryHost, MemorySink, MemorySource};
 use hs_text::{Text, TextList};
-use hs_world::{Limits, Tree, World};
+use hs_world::{Entry, Limits, PathName, Tree, World};
 use sh_leaf::{SpentKind, built};
 use sh_script::parse;
 use sh_syntax::{Fault, Opening};
@@ -22,10 +22,11 @@ struct Shown {
     answer: Answer,
 }
 
-/// Runs the program with these words and sinks.
-fn run_over(
+/// Runs the program with these words over these.
+fn run_on(
     alloc: Global,
     words: &[&[u8]],
+    host: &mut MemoryHost,
     mut out: MemorySink,
     mut err: MemorySink,
 ) -> Result<Shown, AllocError> {
@@ -34,12 +35,11 @@ fn run_over(
         texts.push(Text::from_slice(alloc, word)?)?;
     }
     let mut input = MemorySource::new(Text::new(alloc), 1, Vec::new(alloc))?;
-    let mut host = MemoryHost::new();
     let answer = top(
         alloc,
         &texts,
         &[],
-        &mut host,
+        host,
         &mut input,
         &mut out,
         &mut err,
@@ -48,7 +48,18 @@ fn run_over(
     Ok(Shown { out, err, answer })
 }
 
-/// Runs the program with these words over sinks that take all.
+/// Runs the program with these words and sinks over no file.
+fn run_over(
+    alloc: Global,
+    words: &[&[u8]],
+    out: MemorySink,
+    err: MemorySink,
+) -> Result<Shown, AllocError> {
+    let mut host = MemoryHost::new(Tree::new(alloc), Vec::new(alloc))?;
+    run_on(alloc, words, &mut host, out, err)
+}
+
+/// Runs the program with these words over no file and sinks that take all.
 fn run(alloc: Global, words: &[&[u8]]) -> Result<Shown, AllocError> {
     let out = MemorySink::new(alloc, 4096, Vec::new(alloc))?;
     let err = MemorySink::new(alloc, 4096, Vec::new(alloc))?;
@@ -208,7 +219,7 @@ fn a_run_with_one_turn_does_one_command(rt: HostRuntime) -> Result<(), Fail> {
     };
     let mut out = MemorySink::new(alloc, 2, Vec::new(alloc))?;
     let mut err = MemorySink::new(alloc, 2, Vec::new(alloc))?;
-    let mut host = MemoryHost::new();
+    let mut host = MemoryHost::new(Tree::new(alloc), Vec::new(alloc))?;
     let world = World::new(
         alloc,
         Tree::new(alloc),
@@ -223,5 +234,54 @@ fn a_run_with_one_turn_does_one_command(rt: HostRuntime) -> Result<(), Fail> {
     assert_eq!(rt; report.count, 2);
     assert!(rt; out.written() == b"a\n".as_slice());
     assert!(rt; err.written().is_empty());
+    Ok(())
+}
+
+/// Whether the empty script ends so over this host, with this line.
+fn ends(
+    alloc: Global,
+    host: &mut MemoryHost,
+    ending: Ending,
+    line: &[u8],
+) -> Result<bool, AllocError> {
+    let out = MemorySink::new(alloc, 4096, Vec::new(alloc))?;
+    let err = MemorySink::new(alloc, 4096, Vec::new(alloc))?;
+    let shown = run_on(alloc, &[b"-c", b""], host, out, err)?;
+    Ok(
+        shown.answer.ending == ending
+            && shown.out.written().is_empty()
+            && shown.err.written() == line,
+    )
+}
+
+/// Puts so many empty files into a tree.
+fn put_files(alloc: Global, tree: &mut Tree, count: u32) -> Result<(), AllocError> {
+    let root = PathName::root(alloc);
+    for number in 0..count {
+        let name = format!(in alloc; "f{number}")?;
+        if let Some(path) = PathName::resolve(alloc, &root, name.as_bytes())? {
+            let _ = tree.insert(path, Entry::File(Text::new(alloc)));
+        }
+    }
+    Ok(())
+}
+
+#[test]
+fn files_past_the_limit_are_spent(rt: HostRuntime) -> Result<(), Fail> {
+    let alloc = rt.alloc();
+    let mut tree = Tree::new(alloc);
+    put_files(alloc, &mut tree, 262_145)?;
+    let mut host = MemoryHost::new(tree, Vec::new(alloc))?;
+    let spent = Ending::Spent(SpentKind::Tree);
+    assert!(rt; ends(alloc, &mut host, spent, b"hs: budget spent: tree\n")?);
+    Ok(())
+}
+
+#[test]
+fn files_that_cannot_be_loaded_are_a_fault(rt: HostRuntime) -> Result<(), Fail> {
+    let alloc = rt.alloc();
+    let mut host = MemoryHost::new(Tree::new(alloc), vec![in alloc; 1]?)?;
+    assert!(rt; ends(alloc, &mut host, Ending::HostFault, b"hs: tree failed\n")?);
+    assert!(rt; ends(alloc, &mut host, Ending::Done(0), b"")?);
     Ok(())
 }

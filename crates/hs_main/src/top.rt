@@ -1,18 +1,19 @@
 //! The whole program, from its words to its status.
 
-ghost use Rattle.std.specs.Prelude.{◌≡◌, ◌≤◌, ℕ, List, IfOk, MatchOption};
+ghost use Rattle.std.specs.Prelude.{◌≡◌, ◌≤◌, ℕ, List, IfOk, MatchOption, false};
 ghost use Rattle.hs_outside.specs.Causes.{Rose};
-ghost use Rattle.hs_main.specs.Ending.{IsTold, line_of, status_of};
+ghost use Rattle.hs_world.specs.Files.{is_over};
+ghost use Rattle.hs_main.specs.Ending.{IsTold, line_of, status_of, syntax_line_of};
 ghost use Rattle.hs_main.specs.Commit.{Streams};
-ghost use Rattle.hs_main.specs.Top.{Asks, Finds, IsCompleteFor, Parsed, RunsWords, Tops, no_report, start};
+ghost use Rattle.hs_main.specs.Top.{Asks, FilesOf, Finds, IsCompleteFor, Parsed, RunsWords, Tops, no_report, start};
 
-use crate::ending::{Answer, Ending, Report};
+use crate::ending::{Answer, Ending, Report, syntax_line};
 use crate::gate::Gate;
 use crate::run::plain;
-use hs_outside::{Host, Sink, Source, send};
+use hs_outside::{Host, HostErr, Sink, Source, send};
 use hs_text::{Text, TextList};
 use hs_world::{Limits, Tree, World, WorldErr};
-use sh_leaf::built;
+use sh_leaf::{SpentKind, built};
 use sh_script::{ParseErr, parse};
 use sh_syntax::Script;
 use std::alloc::{AllocError, Global};
@@ -24,14 +25,15 @@ const LIMITS: Limits = Limits {
     turns: 1_000_000,
 };
 
-/// The state in which a script begins: no file, no variable, and no parameter but `$0`.
-fn start(alloc: Global) -> Result<World, AllocError>
-    ensures { IfOk result (λ world. world ≡ start) }
+/// The state in which a script begins over these files: no variable, and no parameter but `$0`.
+fn start(alloc: Global, tree: Tree) -> Result<World, AllocError>
+    requires within { is_over tree ≡ false }
+    ensures { IfOk result (λ world. world ≡ start tree) }
 {
     let zero = Text::from_slice(alloc, b"hs")?;
     match World::new(
         alloc,
-        Tree::new(alloc),
+        tree,
         Vec::new(alloc),
         zero,
         TextList::new(alloc),
@@ -94,7 +96,21 @@ fn built_script(alloc: Global, text: &[u8]) -> Result<Script, Ending>
     }
 }
 
-/// Runs the script that the words hand over.
+/// The host's files, or how the program ends where they can't be loaded.
+fn loaded<H: Host>(alloc: Global, host: &mut H) -> Result<Tree, Ending>
+    ensures loaded { FilesOf (Rose (H.faults host.old) (H.faults host.new)) (H.files host.old) result }
+    ensures files { H.files host.new ≡ H.files host.old }
+    ensures later { H.faults host.old ≤ H.faults host.new }
+{
+    match host.load(alloc) {
+        Ok(tree) => Ok(tree),
+        Err(HostErr::NoMemory) => Err(Ending::NoMemory),
+        Err(HostErr::Fault) => Err(Ending::HostFault),
+        Err(HostErr::TooLarge { .. }) => Err(Ending::Spent(SpentKind::Tree)),
+    }
+}
+
+/// Runs the script that the words hand over, over the host's files.
 fn run_words<H: Host, O: Sink, E: Sink>(
     alloc: Global,
     words: &[Text],
@@ -102,13 +118,19 @@ fn run_words<H: Host, O: Sink, E: Sink>(
     out: &mut O,
     err: &mut E,
 ) -> (Ending, Report)
-    ensures runs { RunsWords (Rose (O.faults out.old) (O.faults out.new)) (Rose (E.faults err.old) (E.faults err.new)) words.now
+    ensures runs { RunsWords (Rose (H.faults host.old) (H.faults host.new)) (Rose (O.faults out.old) (O.faults out.new)) (Rose (E.faults err.old) (E.faults err.new)) (H.files host.old) words.now
         (record { out = O.written out.old; err = E.written err.old }) (record { out = O.written out.new; err = E.written err.new }) result.0 result.1 }
+    ensures files { H.files host.new ≡ H.files host.old }
+    ensures host_later { H.faults host.old ≤ H.faults host.new }
     ensures out_later { O.faults out.old ≤ O.faults out.new }
     ensures err_later { E.faults err.old ≤ E.faults err.new }
 {
     let Some(text) = script_text(words) else {
         return (Ending::Unbuilt, no_report());
+    };
+    let tree = match loaded(alloc, host) {
+        Ok(tree) => tree,
+        Err(ending) => return (ending, no_report()),
     };
     let script = match built_script(alloc, text.as_slice()) {
         Ok(script) => script,
@@ -117,7 +139,7 @@ fn run_words<H: Host, O: Sink, E: Sink>(
     let Ok(script) = Arc::new(alloc, script) else {
         return (Ending::NoMemory, no_report());
     };
-    let Ok(world) = start(alloc) else {
+    let Ok(world) = start(alloc, tree) else {
         return (Ending::NoMemory, no_report());
     };
     plain(alloc, script, world, LIMITS, host, out, err)
@@ -128,14 +150,26 @@ fn tell<E: Sink>(alloc: Global, err: &mut E, ending: Ending)
     ensures told { IsTold (line_of ending) (E.written err.old) (E.written err.new) }
     ensures later { E.faults err.old ≤ E.faults err.new }
 {
-    if let Ok(line) = ending.line(alloc) {
-        let _ = send(err, &line);
+    match ending {
+        Ending::Syntax { line, .. } => tell_syntax(alloc, err, line),
+        _ => {
+            let _ = send(err, ending.fixed_line());
+        }
     }
 }
 
-/// All that the program does: reads the words, runs the script over the host and the two sinks, and says on standard
-/// error how the run ended, where it was not at the script's own end. The environment, the input and the gate are not
-/// asked yet.
+fn tell_syntax<E: Sink>(alloc: Global, err: &mut E, line: u32)
+    ensures told { IsTold (syntax_line_of line) (E.written err.old) (E.written err.new) }
+    ensures later { E.faults err.old ≤ E.faults err.new }
+{
+    if let Ok(text) = syntax_line(alloc, line) {
+        let _ = send(err, &text);
+    }
+}
+
+/// All that the program does: reads the words, loads the host's files, runs the script over them and the two sinks, and says
+/// on standard error how the run ended, where it was not at the script's own end. The environment, the input and the gate
+/// are not asked yet.
 pub fn top<H: Host, I: Source, O: Sink, E: Sink, G: Gate>(
     alloc: Global,
     words: &[Text],
@@ -146,10 +180,11 @@ pub fn top<H: Host, I: Source, O: Sink, E: Sink, G: Gate>(
     err: &mut E,
     gate: &G,
 ) -> Answer
-    ensures tops { Tops (Rose (O.faults out.old) (O.faults out.new)) (Rose (E.faults err.old) (E.faults err.new)) words.now
+    ensures tops { Tops (Rose (H.faults host.old) (H.faults host.new)) (Rose (O.faults out.old) (O.faults out.new)) (Rose (E.faults err.old) (E.faults err.new)) (H.files host.old) words.now
         (record { out = O.written out.old; err = E.written err.old }) (record { out = O.written out.new; err = E.written err.new }) result.ending result.report }
-    ensures complete { IsCompleteFor (Rose (O.faults out.old) (O.faults out.new)) (Rose (E.faults err.old) (E.faults err.new)) words.now result.ending }
+    ensures complete { IsCompleteFor (Rose (H.faults host.old) (H.faults host.new)) (Rose (O.faults out.old) (O.faults out.new)) (Rose (E.faults err.old) (E.faults err.new)) (H.files host.old) words.now result.ending }
     ensures status { result.status ≡ status_of result.ending }
+    ensures files { H.files host.new ≡ H.files host.old }
 {
     let _ = env.len();
     let _ = input;
