@@ -1,18 +1,238 @@
-//! Each location of the state, read back after the effects that touch it.
+//! Each location of the state, read back after each effect that touches it. A row is plain data, so that one more of them
+//! is no more to prove.
 
 use hs_world::{
-    Effect, Entry, Environment, Fd, Found, Kind, Limits, Loc, Opts, PathName, Reply, Route, Routes,
-    Text, TextList, Tree, Value, Var, World,
+    Effect, Entry, Fd, Found, Kind, Limits, Loc, Opts, PathName, Reply, Route, Routes, Text,
+    TextList, Tree, Value, Var, World,
 };
 use std::alloc::{AllocError, Global};
 use std::test::Fail;
 
-/// Effects, and what a location has after them.
+/// Where descriptor 1 leads; in a table of it alone the others lead nowhere.
+#[derive(Clone, Copy)]
+enum To<'a> {
+    Error,
+    File(&'a str),
+    Null,
+    Closed,
+    Capture,
+    /// Where descriptor 2 leads in the table below.
+    Two,
+}
+
+/// An effect.
+#[derive(Clone, Copy)]
+enum Step<'a> {
+    SetVar(&'a str, &'a str),
+    UnsetVar(&'a str),
+    SetFunc(&'a str, u32),
+    UnsetFunc(&'a str),
+    SetParams(&'a [&'a str]),
+    SetStatus(u8),
+    SetCwd(&'a str),
+    SetOpts(Opts),
+    Put(&'a str, &'a str),
+    Append(&'a str, &'a str),
+    MakeDir(&'a str),
+    Remove(&'a str),
+    /// To descriptor 1.
+    Emit(&'a str),
+    PushShell,
+    PopShell,
+    PushInput(&'a str),
+    SetInput(&'a str),
+    PopInput,
+    PushRoutes(To<'a>),
+    PopRoutes,
+    SetRoutes(To<'a>),
+    SetKept(&'a str),
+    ExecInput(&'a str),
+    /// A program left this file with `k` in it, and nothing else.
+    Replied(&'a str),
+}
+
+/// A location, and what it has.
+#[derive(Clone, Copy)]
+enum Shows<'a> {
+    Kind(&'a str, Kind),
+    Bytes(&'a str, Option<&'a str>),
+    Names(&'a str, &'a [&'a str]),
+    Var(&'a str, Option<&'a str>),
+    Func(&'a str, Option<u32>),
+    Params(&'a [&'a str]),
+    Status(u8),
+    Cwd(&'a str),
+    Opts(Opts),
+    Input(&'a str),
+    /// The innermost table has descriptor 1 alone.
+    Routes(To<'a>),
+    /// It is that in which a script begins.
+    FirstRoutes,
+    Ends(To<'a>),
+    FirstEnds,
+    Captured(&'a str),
+    /// Descriptor 3.
+    Kept(Option<&'a str>),
+}
+
 #[derive(Drop)]
-struct Row {
-    effects: Vec<Effect>,
+struct Row<'a> {
+    steps: &'a [Step<'a>],
+    shows: Shows<'a>,
+}
+
+#[derive(Drop)]
+struct Read {
     loc: Loc,
     value: Value,
+}
+
+fn text(alloc: Global, bytes: &str) -> Result<Text, AllocError> {
+    Text::from_slice(alloc, bytes.as_bytes())
+}
+
+fn maybe_text(alloc: Global, bytes: Option<&str>) -> Result<Option<Text>, AllocError> {
+    match bytes {
+        Some(bytes) => Ok(Some(text(alloc, bytes)?)),
+        None => Ok(None),
+    }
+}
+
+fn list(alloc: Global, words: &[&str]) -> Result<TextList, AllocError> {
+    let mut list = TextList::new(alloc);
+    for word in words {
+        list.push(text(alloc, word)?)?;
+    }
+    Ok(list)
+}
+
+fn path(alloc: Global, bytes: &str) -> Result<PathName, AllocError> {
+    let root = PathName::root(alloc);
+    match PathName::resolve(alloc, &root, bytes.as_bytes())? {
+        Some(path) => Ok(path),
+        None => Ok(root),
+    }
+}
+
+fn var(alloc: Global, value: &str) -> Result<Var, AllocError> {
+    Ok(Var {
+        value: Some(text(alloc, value)?),
+        exported: false,
+        readonly: false,
+    })
+}
+
+fn maybe_var(alloc: Global, value: Option<&str>) -> Result<Option<Var>, AllocError> {
+    match value {
+        Some(value) => Ok(Some(var(alloc, value)?)),
+        None => Ok(None),
+    }
+}
+
+fn route(alloc: Global, to: To<'_>) -> Result<Route, AllocError> {
+    match to {
+        To::Error => Ok(Route::Stream(Fd::Two)),
+        To::File(file) => Ok(Route::File(path(alloc, file)?)),
+        To::Null => Ok(Route::Null),
+        To::Closed => Ok(Route::Closed),
+        To::Capture => Ok(Route::Capture),
+        To::Two => Ok(Route::Same(2)),
+    }
+}
+
+fn table(alloc: Global, to: To<'_>) -> Result<Routes, AllocError> {
+    let mut routes = vec![in alloc; Route::Closed; 9]?;
+    routes[0] = route(alloc, to)?;
+    Ok(Routes::from_vec(routes))
+}
+
+/// What a program replies that took all of standard input.
+fn reply(alloc: Global, file: &str) -> Result<Reply, AllocError> {
+    let mut tree = Tree::new(alloc);
+    let bytes = Entry::File(text(alloc, "k")?);
+    let _ = tree.insert(path(alloc, file)?, bytes);
+    Ok(Reply {
+        out: Text::new(alloc),
+        err: Text::new(alloc),
+        status: 3,
+        tree,
+        found: Found::Found,
+    })
+}
+
+fn effect(alloc: Global, step: Step<'_>) -> Result<Effect, AllocError> {
+    match step {
+        Step::SetVar(name, value) => Ok(Effect::SetVar(text(alloc, name)?, var(alloc, value)?)),
+        Step::UnsetVar(name) => Ok(Effect::UnsetVar(text(alloc, name)?)),
+        Step::SetFunc(name, body) => Ok(Effect::SetFunc(text(alloc, name)?, body)),
+        Step::UnsetFunc(name) => Ok(Effect::UnsetFunc(text(alloc, name)?)),
+        Step::SetParams(params) => Ok(Effect::SetParams(list(alloc, params)?)),
+        Step::SetStatus(status) => Ok(Effect::SetStatus(status)),
+        Step::SetCwd(folder) => Ok(Effect::SetCwd(path(alloc, folder)?)),
+        Step::SetOpts(opts) => Ok(Effect::SetOpts(opts)),
+        Step::Put(file, bytes) => Ok(Effect::Put(path(alloc, file)?, text(alloc, bytes)?)),
+        Step::Append(file, bytes) => Ok(Effect::Append(path(alloc, file)?, text(alloc, bytes)?)),
+        Step::MakeDir(folder) => Ok(Effect::MakeDir(path(alloc, folder)?)),
+        Step::Remove(file) => Ok(Effect::Remove(path(alloc, file)?)),
+        Step::Emit(bytes) => Ok(Effect::Emit(Fd::One, text(alloc, bytes)?)),
+        Step::PushShell => Ok(Effect::PushShell),
+        Step::PopShell => Ok(Effect::PopShell),
+        Step::PushInput(bytes) => Ok(Effect::PushInput(text(alloc, bytes)?)),
+        Step::SetInput(bytes) => Ok(Effect::SetInput(text(alloc, bytes)?)),
+        Step::PopInput => Ok(Effect::PopInput),
+        Step::PushRoutes(to) => Ok(Effect::PushRoutes(table(alloc, to)?)),
+        Step::PopRoutes => Ok(Effect::PopRoutes),
+        Step::SetRoutes(to) => Ok(Effect::SetRoutes(table(alloc, to)?)),
+        Step::SetKept(bytes) => Ok(Effect::SetKept(3, Some(text(alloc, bytes)?))),
+        Step::ExecInput(bytes) => Ok(Effect::ExecInput(text(alloc, bytes)?)),
+        Step::Replied(file) => Ok(Effect::Replied(reply(alloc, file)?)),
+    }
+}
+
+fn loc(alloc: Global, shows: Shows<'_>) -> Result<Loc, AllocError> {
+    match shows {
+        Shows::Kind(file, _) => Ok(Loc::Kind(path(alloc, file)?)),
+        Shows::Bytes(file, _) => Ok(Loc::Bytes(path(alloc, file)?)),
+        Shows::Names(folder, _) => Ok(Loc::Names(path(alloc, folder)?)),
+        Shows::Var(name, _) => Ok(Loc::Var(text(alloc, name)?)),
+        Shows::Func(name, _) => Ok(Loc::Func(text(alloc, name)?)),
+        Shows::Params(_) => Ok(Loc::Params),
+        Shows::Status(_) => Ok(Loc::Status),
+        Shows::Cwd(_) => Ok(Loc::Cwd),
+        Shows::Opts(_) => Ok(Loc::Opts),
+        Shows::Input(_) => Ok(Loc::Input),
+        Shows::Routes(_) | Shows::FirstRoutes => Ok(Loc::Routes),
+        Shows::Ends(_) | Shows::FirstEnds => Ok(Loc::Ends),
+        Shows::Captured(_) => Ok(Loc::Captured),
+        Shows::Kept(_) => Ok(Loc::Kept(3)),
+    }
+}
+
+fn value(alloc: Global, shows: Shows<'_>) -> Result<Value, AllocError> {
+    match shows {
+        Shows::Kind(_, kind) => Ok(Value::Kind(kind)),
+        Shows::Bytes(_, bytes) => Ok(Value::Bytes(maybe_text(alloc, bytes)?)),
+        Shows::Names(_, names) => Ok(Value::Names(Some(list(alloc, names)?))),
+        Shows::Var(_, value) => Ok(Value::Var(maybe_var(alloc, value)?)),
+        Shows::Func(_, body) => Ok(Value::Func(body)),
+        Shows::Params(params) => Ok(Value::Params(Text::new(alloc), list(alloc, params)?)),
+        Shows::Status(status) => Ok(Value::Status(status)),
+        Shows::Cwd(folder) => Ok(Value::Cwd(path(alloc, folder)?)),
+        Shows::Opts(opts) => Ok(Value::Opts(opts)),
+        Shows::Input(bytes) => Ok(Value::Input(text(alloc, bytes)?)),
+        Shows::Routes(to) => Ok(Value::Routes(table(alloc, to)?)),
+        Shows::FirstRoutes => Ok(Value::Routes(Routes::first(alloc)?)),
+        Shows::Ends(to) => Ok(Value::Ends(table(alloc, to)?)),
+        Shows::FirstEnds => Ok(Value::Ends(Routes::first(alloc)?)),
+        Shows::Captured(bytes) => Ok(Value::Captured(text(alloc, bytes)?)),
+        Shows::Kept(bytes) => Ok(Value::Kept(maybe_text(alloc, bytes)?)),
+    }
+}
+
+fn read_of(alloc: Global, shows: Shows<'_>) -> Result<Read, AllocError> {
+    let loc = loc(alloc, shows)?;
+    let value = value(alloc, shows)?;
+    Ok(Read { loc, value })
 }
 
 /// The state in which a script begins, over an empty tree.
@@ -34,478 +254,254 @@ fn begin(alloc: Global) -> Option<World> {
     .ok()
 }
 
-/// Whether a location has a value, and is read as what it has.
-fn is_read(world: &World, loc: &Loc, value: &Value) -> bool {
-    match world.at(loc) {
-        Ok(seen) => world.holds(loc, &seen) && world.holds(loc, value),
+/// Does an effect, and says whether it may come, fits and was done.
+fn does(world: &mut World, effect: &Effect) -> bool {
+    world.valid(effect) && world.fits(effect).is_none() && world.apply(effect).is_ok()
+}
+
+fn does_step(alloc: Global, world: &mut World, step: Step<'_>) -> bool {
+    match effect(alloc, step) {
+        Ok(effect) => does(world, &effect),
         Err(_) => false,
     }
 }
 
-fn shows(world: &mut World, row: &Row) -> bool {
-    for effect in &row.effects {
-        if !world.valid(effect) || world.fits(effect).is_some() || world.apply(effect).is_err() {
+fn does_steps(alloc: Global, world: &mut World, steps: &[Step<'_>]) -> bool {
+    for step in steps {
+        if !does_step(alloc, world, *step) {
             return false;
         }
     }
-    is_read(world, &row.loc, &row.value)
+    true
 }
 
-fn holds(alloc: Global, row: &Row) -> bool {
+/// Whether a location has a value, and is read as what it has.
+fn has(world: &World, read: &Read) -> bool {
+    match world.at(&read.loc) {
+        Ok(seen) => world.holds(&read.loc, &seen) && world.holds(&read.loc, &read.value),
+        Err(_) => false,
+    }
+}
+
+fn is_shown(alloc: Global, world: &World, shows: Shows<'_>) -> bool {
+    match read_of(alloc, shows) {
+        Ok(read) => has(world, &read),
+        Err(_) => false,
+    }
+}
+
+fn holds_from(alloc: Global, world: &mut World, row: &Row<'_>) -> bool {
+    does_steps(alloc, world, row.steps) && is_shown(alloc, world, row.shows)
+}
+
+fn holds(alloc: Global, row: &Row<'_>) -> bool {
     match begin(alloc) {
-        Some(mut world) => shows(&mut world, row),
+        Some(mut world) => holds_from(alloc, &mut world, row),
         None => false,
     }
 }
 
-fn text(alloc: Global, bytes: &str) -> Result<Text, AllocError> {
-    Text::from_slice(alloc, bytes.as_bytes())
-}
-
-fn path(alloc: Global, bytes: &str) -> Result<PathName, AllocError> {
-    let root = PathName::root(alloc);
-    match PathName::resolve(alloc, &root, bytes.as_bytes())? {
-        Some(path) => Ok(path),
-        None => Ok(root),
+fn hold(alloc: Global, rows: &[Row<'_>]) -> bool {
+    for row in rows {
+        if !holds(alloc, row) {
+            return false;
+        }
     }
+    true
 }
 
-fn var(alloc: Global, value: &str) -> Result<Var, AllocError> {
-    Ok(Var {
-        value: Some(text(alloc, value)?),
-        exported: false,
-        readonly: false,
-    })
+fn after<'a>(steps: &'a [Step<'a>], shows: Shows<'a>) -> Row<'a> {
+    Row { steps, shows }
 }
 
-fn set_var(alloc: Global, name: &str, value: &str) -> Result<Effect, AllocError> {
-    Ok(Effect::SetVar(text(alloc, name)?, var(alloc, value)?))
-}
+const INNER: Step<'static> = Step::PushShell;
 
-fn put(alloc: Global, file: &str, bytes: &str) -> Result<Effect, AllocError> {
-    Ok(Effect::Put(path(alloc, file)?, text(alloc, bytes)?))
-}
+const OUTER: Step<'static> = Step::PopShell;
 
-fn emit(alloc: Global, bytes: &str) -> Result<Effect, AllocError> {
-    Ok(Effect::Emit(Fd::One, text(alloc, bytes)?))
-}
+const SET: Step<'static> = Step::SetVar("x", "1");
 
-/// The table whose descriptor 1 leads there, and the others nowhere.
-fn one_to(alloc: Global, route: Route) -> Result<Routes, AllocError> {
-    let mut routes = vec![in alloc; Route::Closed; 9]?;
-    routes[0] = route;
-    Ok(Routes::from_vec(routes))
-}
+const FILE: Step<'static> = Step::Put("/f", "a");
 
-// Variables, functions and parameters
+const FOLDER: Step<'static> = Step::MakeDir("/d");
 
-fn variable_set(alloc: Global) -> Result<Row, AllocError> {
-    Ok(Row {
-        effects: vec![in alloc; set_var(alloc, "x", "1")?, set_var(alloc, "x", "2")?]?,
-        loc: Loc::Var(text(alloc, "x")?),
-        value: Value::Var(Some(var(alloc, "2")?)),
-    })
-}
+const FIRST: Step<'static> = Step::SetInput("a");
 
-fn variable_unset(alloc: Global) -> Result<Row, AllocError> {
-    let name = text(alloc, "x")?;
-    Ok(Row {
-        effects: vec![in alloc; set_var(alloc, "x", "1")?, Effect::UnsetVar(name)]?,
-        loc: Loc::Var(text(alloc, "x")?),
-        value: Value::Var(None),
-    })
-}
+const NULL: Step<'static> = Step::PushRoutes(To::Null);
 
-fn function_set(alloc: Global) -> Result<Row, AllocError> {
-    Ok(Row {
-        effects: vec![in alloc; Effect::SetFunc(text(alloc, "f")?, 3)]?,
-        loc: Loc::Func(text(alloc, "f")?),
-        value: Value::Func(Some(3)),
-    })
-}
+const CLOSED: Step<'static> = Step::SetRoutes(To::Closed);
 
-fn function_unset(alloc: Global) -> Result<Row, AllocError> {
-    let name = text(alloc, "f")?;
-    Ok(Row {
-        effects: vec![in alloc;
-            Effect::SetFunc(text(alloc, "f")?, 3),
-            Effect::UnsetFunc(name),
-        ]?,
-        loc: Loc::Func(text(alloc, "f")?),
-        value: Value::Func(None),
-    })
-}
+const TWO: Step<'static> = Step::PushRoutes(To::Two);
 
-fn params_set(alloc: Global) -> Result<Row, AllocError> {
-    let mut params = TextList::new(alloc);
-    params.push(text(alloc, "a")?)?;
-    Ok(Row {
-        effects: vec![in alloc; Effect::SetParams(params.clone()?)]?,
-        loc: Loc::Params,
-        value: Value::Params(Text::new(alloc), params),
-    })
-}
+const CAPTURE: Step<'static> = Step::PushRoutes(To::Capture);
+
+const TAKEN: Step<'static> = Step::Emit("a");
 
 #[test]
 fn names_are_read_back(rt: HostRuntime) -> Result<(), Fail> {
-    let alloc = rt.alloc();
-    assert!(rt; holds(alloc, &variable_set(alloc)?));
-    assert!(rt; holds(alloc, &variable_unset(alloc)?));
-    assert!(rt; holds(alloc, &function_set(alloc)?));
-    assert!(rt; holds(alloc, &function_unset(alloc)?));
-    assert!(rt; holds(alloc, &params_set(alloc)?));
+    let rows = [
+        after(&[SET, Step::SetVar("x", "2")], Shows::Var("x", Some("2"))),
+        after(&[SET, Step::UnsetVar("x")], Shows::Var("x", None)),
+        after(
+            &[Step::PushShell, SET, Step::PopShell],
+            Shows::Var("x", None),
+        ),
+        after(&[Step::SetFunc("f", 3)], Shows::Func("f", Some(3))),
+        after(
+            &[Step::SetFunc("f", 3), Step::UnsetFunc("f")],
+            Shows::Func("f", None),
+        ),
+        after(
+            &[Step::PushShell, Step::SetFunc("f", 3), Step::PopShell],
+            Shows::Func("f", None),
+        ),
+        after(&[Step::SetParams(&["a", "b"])], Shows::Params(&["a", "b"])),
+        after(
+            &[Step::PushShell, Step::SetParams(&["a"]), Step::PopShell],
+            Shows::Params(&[]),
+        ),
+    ];
+    assert!(rt; hold(rt.alloc(), &rows));
     Ok(())
-}
-
-// The status, the current folder, options, and a descriptor that is open for reading
-
-fn status_after_shell(alloc: Global) -> Result<Row, AllocError> {
-    Ok(Row {
-        effects: vec![in alloc; Effect::PushShell, Effect::SetStatus(3), Effect::PopShell]?,
-        loc: Loc::Status,
-        value: Value::Status(3),
-    })
-}
-
-fn folder_set(alloc: Global) -> Result<Row, AllocError> {
-    let folder = path(alloc, "/d")?;
-    Ok(Row {
-        effects: vec![in alloc; Effect::MakeDir(path(alloc, "/d")?), Effect::SetCwd(folder)]?,
-        loc: Loc::Cwd,
-        value: Value::Cwd(path(alloc, "/d")?),
-    })
-}
-
-fn options_after_shell(alloc: Global) -> Result<Row, AllocError> {
-    Ok(Row {
-        effects: vec![in alloc;
-            Effect::PushShell,
-            Effect::SetOpts(Opts::ERREXIT),
-            Effect::PopShell,
-        ]?,
-        loc: Loc::Opts,
-        value: Value::Opts(Opts::none()),
-    })
-}
-
-fn options_set(alloc: Global) -> Result<Row, AllocError> {
-    Ok(Row {
-        effects: vec![in alloc; Effect::SetOpts(Opts::ERREXIT)]?,
-        loc: Loc::Opts,
-        value: Value::Opts(Opts::ERREXIT),
-    })
-}
-
-fn descriptor_opened(alloc: Global) -> Result<Row, AllocError> {
-    Ok(Row {
-        effects: vec![in alloc; Effect::SetKept(3, Some(text(alloc, "a")?))]?,
-        loc: Loc::Kept(3),
-        value: Value::Kept(Some(text(alloc, "a")?)),
-    })
 }
 
 #[test]
 fn what_a_shell_keeps_is_read_back(rt: HostRuntime) -> Result<(), Fail> {
-    let alloc = rt.alloc();
-    assert!(rt; holds(alloc, &status_after_shell(alloc)?));
-    assert!(rt; holds(alloc, &folder_set(alloc)?));
-    assert!(rt; holds(alloc, &options_after_shell(alloc)?));
-    assert!(rt; holds(alloc, &options_set(alloc)?));
-    assert!(rt; holds(alloc, &descriptor_opened(alloc)?));
+    let rows = [
+        after(&[Step::SetStatus(3)], Shows::Status(3)),
+        after(&[INNER, Step::SetStatus(3), OUTER], Shows::Status(3)),
+        after(&[FOLDER, Step::SetCwd("/d")], Shows::Cwd("/d")),
+        after(&[FOLDER, INNER, Step::SetCwd("/d"), OUTER], Shows::Cwd("/")),
+        after(&[Step::SetOpts(Opts::ERREXIT)], Shows::Opts(Opts::ERREXIT)),
+        after(
+            &[INNER, Step::SetOpts(Opts::ERREXIT), OUTER],
+            Shows::Opts(Opts::none()),
+        ),
+        after(&[Step::SetKept("a")], Shows::Kept(Some("a"))),
+        after(&[INNER, Step::SetKept("a"), OUTER], Shows::Kept(None)),
+    ];
+    assert!(rt; hold(rt.alloc(), &rows));
     Ok(())
-}
-
-// Files
-
-fn file_longer(alloc: Global) -> Result<Row, AllocError> {
-    let more = Effect::Append(path(alloc, "/f")?, text(alloc, "b")?);
-    Ok(Row {
-        effects: vec![in alloc; put(alloc, "/f", "a")?, more]?,
-        loc: Loc::Bytes(path(alloc, "/f")?),
-        value: Value::Bytes(Some(text(alloc, "ab")?)),
-    })
-}
-
-fn folder_made(alloc: Global) -> Result<Row, AllocError> {
-    Ok(Row {
-        effects: vec![in alloc; Effect::MakeDir(path(alloc, "/d")?)]?,
-        loc: Loc::Kind(path(alloc, "/d")?),
-        value: Value::Kind(Kind::Dir),
-    })
-}
-
-fn file_removed(alloc: Global) -> Result<Row, AllocError> {
-    let gone = Effect::Remove(path(alloc, "/f")?);
-    Ok(Row {
-        effects: vec![in alloc; put(alloc, "/f", "a")?, gone]?,
-        loc: Loc::Kind(path(alloc, "/f")?),
-        value: Value::Kind(Kind::Absent),
-    })
-}
-
-/// Makes empty files.
-fn put_all(alloc: Global, files: &[&str]) -> Result<Vec<Effect>, AllocError> {
-    let mut effects = Vec::new(alloc);
-    for file in files {
-        effects.push(put(alloc, file, "")?)?;
-    }
-    Ok(effects)
-}
-
-fn list(alloc: Global, names: &[&str]) -> Result<TextList, AllocError> {
-    let mut list = TextList::new(alloc);
-    for name in names {
-        list.push(text(alloc, name)?)?;
-    }
-    Ok(list)
-}
-
-fn names_in_order(alloc: Global) -> Result<Row, AllocError> {
-    let mut effects = put_all(alloc, &["/b", "/c", "/a"])?;
-    effects.push(Effect::Remove(path(alloc, "/c")?))?;
-    let names = list(alloc, &["a", "b"])?;
-    let root = path(alloc, "/")?;
-    Ok(Row {
-        effects,
-        loc: Loc::Names(root),
-        value: Value::Names(Some(names)),
-    })
-}
-
-/// A tree of one entry.
-fn left(alloc: Global, path: PathName, entry: Entry) -> Tree {
-    let mut tree = Tree::new(alloc);
-    match tree.insert(path, entry) {
-        Ok(()) => tree,
-        Err(_) => Tree::new(alloc),
-    }
-}
-
-/// A program left one file and took all of standard input.
-fn replied(alloc: Global) -> Result<Effect, AllocError> {
-    let file = Entry::File(text(alloc, "k")?);
-    Ok(Effect::Replied(Reply {
-        out: Text::new(alloc),
-        err: Text::new(alloc),
-        status: 3,
-        tree: left(alloc, path(alloc, "/o")?, file),
-        found: Found::Found,
-    }))
-}
-
-fn files_left(alloc: Global) -> Result<Row, AllocError> {
-    Ok(Row {
-        effects: vec![in alloc; put(alloc, "/f", "a")?, replied(alloc)?]?,
-        loc: Loc::Kind(path(alloc, "/f")?),
-        value: Value::Kind(Kind::Absent),
-    })
 }
 
 #[test]
 fn files_are_read_back(rt: HostRuntime) -> Result<(), Fail> {
-    let alloc = rt.alloc();
-    assert!(rt; holds(alloc, &file_longer(alloc)?));
-    assert!(rt; holds(alloc, &folder_made(alloc)?));
-    assert!(rt; holds(alloc, &file_removed(alloc)?));
-    assert!(rt; holds(alloc, &names_in_order(alloc)?));
-    assert!(rt; holds(alloc, &files_left(alloc)?));
+    let rows = [
+        after(&[FILE], Shows::Kind("/f", Kind::File)),
+        after(&[FOLDER], Shows::Kind("/d", Kind::Dir)),
+        after(&[FILE, Step::Remove("/f")], Shows::Kind("/f", Kind::Absent)),
+        after(
+            &[FOLDER, Step::Remove("/d")],
+            Shows::Kind("/d", Kind::Absent),
+        ),
+        after(
+            &[FILE, Step::Replied("/o")],
+            Shows::Kind("/f", Kind::Absent),
+        ),
+        after(&[Step::Replied("/o")], Shows::Kind("/o", Kind::File)),
+        after(&[FILE], Shows::Bytes("/f", Some("a"))),
+        after(&[FILE, Step::Put("/f", "b")], Shows::Bytes("/f", Some("b"))),
+        after(
+            &[FILE, Step::Append("/f", "b")],
+            Shows::Bytes("/f", Some("ab")),
+        ),
+        after(&[FILE, Step::Remove("/f")], Shows::Bytes("/f", None)),
+        after(
+            &[FILE, Step::PushRoutes(To::File("/f")), Step::Emit("b")],
+            Shows::Bytes("/f", Some("ab")),
+        ),
+        after(&[Step::Replied("/o")], Shows::Bytes("/o", Some("k"))),
+        after(&[FILE, Step::Replied("/o")], Shows::Bytes("/f", None)),
+        after(
+            &[Step::Put("/b", ""), Step::Put("/a", "")],
+            Shows::Names("/", &["a", "b"]),
+        ),
+        after(&[FOLDER, Step::Put("/d/f", "")], Shows::Names("/d", &["f"])),
+        after(&[FOLDER], Shows::Names("/", &["d"])),
+        after(
+            &[FILE, FOLDER, Step::Remove("/f")],
+            Shows::Names("/", &["d"]),
+        ),
+        after(&[FILE, Step::Replied("/o")], Shows::Names("/", &["o"])),
+    ];
+    assert!(rt; hold(rt.alloc(), &rows));
     Ok(())
-}
-
-// Standard input
-
-fn input_read(alloc: Global) -> Result<Row, AllocError> {
-    let rest = Effect::SetInput(text(alloc, "b")?);
-    Ok(Row {
-        effects: vec![in alloc; Effect::PushInput(text(alloc, "ab")?), rest]?,
-        loc: Loc::Input,
-        value: Value::Input(text(alloc, "b")?),
-    })
-}
-
-fn input_popped(alloc: Global) -> Result<Row, AllocError> {
-    let first = Effect::SetInput(text(alloc, "a")?);
-    Ok(Row {
-        effects: vec![in alloc;
-            first,
-            Effect::PushInput(text(alloc, "b")?),
-            Effect::PopInput,
-        ]?,
-        loc: Loc::Input,
-        value: Value::Input(text(alloc, "a")?),
-    })
-}
-
-fn input_after_shell(alloc: Global) -> Result<Row, AllocError> {
-    let opened = Effect::ExecInput(text(alloc, "a")?);
-    Ok(Row {
-        effects: vec![in alloc; Effect::PushShell, opened, Effect::PopShell]?,
-        loc: Loc::Input,
-        value: Value::Input(Text::new(alloc)),
-    })
-}
-
-fn input_taken(alloc: Global) -> Result<Row, AllocError> {
-    Ok(Row {
-        effects: vec![in alloc; Effect::SetInput(text(alloc, "a")?), replied(alloc)?]?,
-        loc: Loc::Input,
-        value: Value::Input(Text::new(alloc)),
-    })
 }
 
 #[test]
 fn standard_input_is_read_back(rt: HostRuntime) -> Result<(), Fail> {
-    let alloc = rt.alloc();
-    assert!(rt; holds(alloc, &input_read(alloc)?));
-    assert!(rt; holds(alloc, &input_popped(alloc)?));
-    assert!(rt; holds(alloc, &input_after_shell(alloc)?));
-    assert!(rt; holds(alloc, &input_taken(alloc)?));
+    let rows = [
+        after(&[FIRST, Step::PushInput("b")], Shows::Input("b")),
+        after(
+            &[Step::PushInput("ab"), Step::SetInput("b")],
+            Shows::Input("b"),
+        ),
+        after(
+            &[FIRST, Step::PushInput("b"), Step::PopInput],
+            Shows::Input("a"),
+        ),
+        after(&[FIRST, Step::ExecInput("b")], Shows::Input("b")),
+        after(
+            &[FIRST, INNER, Step::ExecInput("b"), OUTER],
+            Shows::Input("a"),
+        ),
+        after(
+            &[FIRST, INNER, Step::SetInput("b"), OUTER],
+            Shows::Input("b"),
+        ),
+        after(
+            &[FIRST, INNER, Step::PushInput("b"), OUTER],
+            Shows::Input("a"),
+        ),
+        after(&[FIRST, Step::Replied("/o")], Shows::Input("")),
+    ];
+    assert!(rt; hold(rt.alloc(), &rows));
     Ok(())
-}
-
-// Where descriptors lead
-
-fn written_to_file(alloc: Global) -> Result<Row, AllocError> {
-    let table = one_to(alloc, Route::File(path(alloc, "/f")?))?;
-    Ok(Row {
-        effects: vec![in alloc;
-            put(alloc, "/f", "a")?,
-            Effect::PushRoutes(table),
-            emit(alloc, "b")?,
-        ]?,
-        loc: Loc::Bytes(path(alloc, "/f")?),
-        value: Value::Bytes(Some(text(alloc, "ab")?)),
-    })
-}
-
-fn captured(alloc: Global) -> Result<Row, AllocError> {
-    let table = one_to(alloc, Route::Capture)?;
-    Ok(Row {
-        effects: vec![in alloc;
-            Effect::PushRoutes(table),
-            emit(alloc, "a")?,
-            emit(alloc, "b")?,
-        ]?,
-        loc: Loc::Captured,
-        value: Value::Captured(text(alloc, "ab")?),
-    })
-}
-
-fn routes_set(alloc: Global) -> Result<Row, AllocError> {
-    let first = Effect::PushRoutes(one_to(alloc, Route::Null)?);
-    let second = Effect::SetRoutes(one_to(alloc, Route::Closed)?);
-    Ok(Row {
-        effects: vec![in alloc; first, second]?,
-        loc: Loc::Routes,
-        value: Value::Routes(one_to(alloc, Route::Closed)?),
-    })
-}
-
-fn routes_popped(alloc: Global) -> Result<Row, AllocError> {
-    let table = one_to(alloc, Route::Null)?;
-    Ok(Row {
-        effects: vec![in alloc; Effect::PushRoutes(table), Effect::PopRoutes]?,
-        loc: Loc::Routes,
-        value: Value::Routes(Routes::first(alloc)?),
-    })
-}
-
-fn ends_followed(alloc: Global) -> Result<Row, AllocError> {
-    let table = one_to(alloc, Route::Same(2))?;
-    Ok(Row {
-        effects: vec![in alloc; Effect::PushRoutes(table)]?,
-        loc: Loc::Ends,
-        value: Value::Ends(one_to(alloc, Route::Stream(Fd::Two))?),
-    })
 }
 
 #[test]
 fn routes_are_read_back(rt: HostRuntime) -> Result<(), Fail> {
-    let alloc = rt.alloc();
-    assert!(rt; holds(alloc, &written_to_file(alloc)?));
-    assert!(rt; holds(alloc, &captured(alloc)?));
-    assert!(rt; holds(alloc, &routes_set(alloc)?));
-    assert!(rt; holds(alloc, &routes_popped(alloc)?));
-    assert!(rt; holds(alloc, &ends_followed(alloc)?));
+    let rows = [
+        after(&[NULL], Shows::Routes(To::Null)),
+        after(&[Step::PushRoutes(To::Two)], Shows::Routes(To::Two)),
+        after(&[NULL, CLOSED], Shows::Routes(To::Closed)),
+        after(&[NULL, Step::PopRoutes], Shows::FirstRoutes),
+        after(&[INNER, CLOSED, OUTER], Shows::FirstRoutes),
+        after(&[NULL, INNER, CLOSED, OUTER], Shows::Routes(To::Null)),
+    ];
+    assert!(rt; hold(rt.alloc(), &rows));
     Ok(())
 }
 
-// What goes again
-
-fn function_after_shell(alloc: Global) -> Result<Row, AllocError> {
-    let set = Effect::SetFunc(text(alloc, "f")?, 3);
-    Ok(Row {
-        effects: vec![in alloc; Effect::PushShell, set, Effect::PopShell]?,
-        loc: Loc::Func(text(alloc, "f")?),
-        value: Value::Func(None),
-    })
-}
-
 #[test]
-fn a_function_goes_with_its_shell(rt: HostRuntime) -> Result<(), Fail> {
-    let row = function_after_shell(rt.alloc())?;
-    assert!(rt; holds(rt.alloc(), &row));
+fn ends_are_followed(rt: HostRuntime) -> Result<(), Fail> {
+    let rows = [
+        after(&[TWO], Shows::Ends(To::Error)),
+        after(&[TWO, TWO], Shows::Ends(To::Closed)),
+        after(&[NULL, Step::PopRoutes], Shows::FirstEnds),
+        after(&[NULL, CLOSED], Shows::Ends(To::Closed)),
+        after(&[INNER, CLOSED, OUTER], Shows::FirstEnds),
+        after(&[NULL, INNER, CLOSED, OUTER], Shows::Ends(To::Null)),
+    ];
+    assert!(rt; hold(rt.alloc(), &rows));
     Ok(())
 }
 
-fn descriptor_after_shell(alloc: Global) -> Result<Row, AllocError> {
-    let opened = Effect::SetKept(3, Some(text(alloc, "a")?));
-    Ok(Row {
-        effects: vec![in alloc; Effect::PushShell, opened, Effect::PopShell]?,
-        loc: Loc::Kept(3),
-        value: Value::Kept(None),
-    })
-}
-
 #[test]
-fn a_descriptor_goes_with_its_shell(rt: HostRuntime) -> Result<(), Fail> {
-    let row = descriptor_after_shell(rt.alloc())?;
-    assert!(rt; holds(rt.alloc(), &row));
-    Ok(())
-}
-
-fn folder_is_listed(alloc: Global) -> Result<Row, AllocError> {
-    Ok(Row {
-        effects: vec![in alloc; Effect::MakeDir(path(alloc, "/d")?)]?,
-        loc: Loc::Names(path(alloc, "/")?),
-        value: Value::Names(Some(list(alloc, &["d"])?)),
-    })
-}
-
-#[test]
-fn a_folder_is_listed(rt: HostRuntime) -> Result<(), Fail> {
-    let row = folder_is_listed(rt.alloc())?;
-    assert!(rt; holds(rt.alloc(), &row));
-    Ok(())
-}
-
-fn bytes_left(alloc: Global) -> Result<Row, AllocError> {
-    Ok(Row {
-        effects: vec![in alloc; replied(alloc)?]?,
-        loc: Loc::Bytes(path(alloc, "/o")?),
-        value: Value::Bytes(Some(text(alloc, "k")?)),
-    })
-}
-
-#[test]
-fn what_a_program_left_is_read_back(rt: HostRuntime) -> Result<(), Fail> {
-    let row = bytes_left(rt.alloc())?;
-    assert!(rt; holds(rt.alloc(), &row));
-    Ok(())
-}
-
-fn captured_no_more(alloc: Global) -> Result<Row, AllocError> {
-    let table = one_to(alloc, Route::Capture)?;
-    Ok(Row {
-        effects: vec![in alloc; Effect::PushRoutes(table), Effect::PopRoutes]?,
-        loc: Loc::Captured,
-        value: Value::Captured(Text::new(alloc)),
-    })
-}
-
-#[test]
-fn a_capture_goes_with_its_table(rt: HostRuntime) -> Result<(), Fail> {
-    let row = captured_no_more(rt.alloc())?;
-    assert!(rt; holds(rt.alloc(), &row));
+fn captures_are_read_back(rt: HostRuntime) -> Result<(), Fail> {
+    let rows = [
+        after(&[CAPTURE], Shows::Captured("")),
+        after(&[CAPTURE, TAKEN, Step::Emit("b")], Shows::Captured("ab")),
+        after(&[CAPTURE, TAKEN, CAPTURE], Shows::Captured("")),
+        after(
+            &[CAPTURE, TAKEN, CAPTURE, Step::PopRoutes],
+            Shows::Captured("a"),
+        ),
+        after(&[CAPTURE, TAKEN, Step::PopRoutes], Shows::Captured("")),
+        after(
+            &[CAPTURE, TAKEN, Step::PushRoutes(To::Null)],
+            Shows::Captured("a"),
+        ),
+    ];
+    assert!(rt; hold(rt.alloc(), &rows));
     Ok(())
 }
