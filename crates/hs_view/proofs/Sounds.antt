@@ -1,7 +1,7 @@
 -- What a view keeps.
 use Rattle.std.specs.List.{AllByRecursion as ByRecursion}
 use Rattle.std.proofs.Common.{◌≡◌, ◌+◌, ◌-◌, ◌^◌, min, Bool, T, false, true, ℕ, List, [], ◌∷◌, ◌++◌, refl, sym, ap, ◌∙◌, subst, arith}
-use Rattle.std.specs.Prelude.{Option, Some, IfSome, Result, Ok, Err, IfOk, ◌<◌, ltb, if◌then◌else◌}
+use Rattle.std.specs.Prelude.{Option, Some, None, is_some, IfSome, Result, Ok, Err, IfOk, ◌<◌, ltb, if◌then◌else◌}
 use Rattle.std.proofs.lemmas.Bool.{ltb-true, lt-ltb}
 use Rattle.hs_view.specs.declared.halt.Halt.{Halt}
 use Rattle.hs_view.specs.declared.halt.Halt.TheVariants.{Trace}
@@ -15,6 +15,8 @@ use Rattle.hs_world.specs.declared.loc.Value.TheVariants as value
 use Rattle.hs_world.specs.declared.opts.Opts.{Opts}
 use Rattle.hs_world.specs.declared.route.Route.{Route}
 use Rattle.hs_world.proofs.Passing.{passes_front, fresh_push, all_push}
+use Rattle.hs_overlay.specs.Overlay.{OverlayData, no_overlay, over_all, AllOwn}
+use Rattle.hs_view.specs.Known.{ends_in, routes_in, tables_of}
 use Rattle.hs_view.specs.Seen.{SeenData, is_of}
 use Rattle.hs_view.specs.Size.{capped, read_size, reads_size, effects_size, trace_size}
 use Rattle.hs_view.specs.Sound.{IsSound}
@@ -38,7 +40,7 @@ stands_tree s rs b h t = (to_passes s.writes s.world rs b h t).0
 pub stands_told : (s : SeenData) (rs : ReadList) (b : WorldData) → s.writes ≡ true → Stands s rs b → s.world ≡ Some b
 stands_told s rs b h t = to_told s.writes s.world rs b h t
 
-from_passes : (writes : Bool) (told : Option WorldData) (rs : ReadList) (b : WorldData) → writes ≡ false → IsTree b.tree → Passes rs b → stands_by writes told rs b
+pub from_passes : (writes : Bool) (told : Option WorldData) (rs : ReadList) (b : WorldData) → writes ≡ false → IsTree b.tree → Passes rs b → stands_by writes told rs b
 from_passes false told rs b h t p = (t, p)
 from_passes true told rs b h t p = absurd (subst T h tt)
 
@@ -61,23 +63,33 @@ size_read rs es r old new h n =
 
 -- ---- what is kept
 
+tabled_same : {B : Type 0} (seen : B → SeenData) (v u : Viewed B) (kept : Option OverlayData) → (seen u.base).writes ≡ (seen v.base).writes → u.effects ≡ v.effects → u.reads ≡ v.reads
+    → ((o : OverlayData) → kept ≡ Some o → o ≡ tables_of seen v) → (o : OverlayData) → kept ≡ Some o → o ≡ tables_of seen u
+tabled_same {B} seen v u kept i e r f o k = f o k ∙ (λ j. over_all (own (sym i j) (sym e j)) (no_overlay (ends_in (sym r j)) (routes_in (sym r j))))
+
+no_tables : {B : Type 0} (seen : B → SeenData) (v : Viewed B) (o : OverlayData) → None ≡ Some o → o ≡ tables_of seen v
+no_tables seen v o h = absurd (subst T (sym (ap is_some h)) tt)
+
+own_same : {B : Type 0} (seen : B → SeenData) (v u : Viewed B) → (seen u.base).writes ≡ (seen v.base).writes → u.effects ≡ v.effects → own_of seen u ≡ own_of seen v
+own_same {B} seen v u i e = λ j. own (i j) (e j)
+
 -- over a base that writes
-pub sound_now : {B : Type 0} (seen : B → SeenData) (v u : Viewed B) (size : ℕ) → IsSound seen v size → (seen u.base).writes ≡ true → u.effects ≡ v.effects → u.reads ≡ v.reads → IsSound seen u size
-sound_now {B} seen v u size s i e r =
+pub sound_now : {B : Type 0} (seen : B → SeenData) (v u : Viewed B) (size : ℕ) (kept : Option OverlayData) → IsSound seen v size kept → (seen v.base).writes ≡ true → (seen u.base).writes ≡ true → u.effects ≡ v.effects → u.reads ≡ v.reads → IsSound seen u size kept
+sound_now {B} seen v u size kept s h i e r =
     let o : own_of seen u ≡ [] = ap (λ (x : Bool). own x u.effects) i in record {
-      none = e ∙ s.none;
       fresh = subst Fresh (sym r) s.fresh;
       shaped = subst (λ (rs : ReadList). ByRecursion (λ r. is_of r.0 r.1 ≡ true) rs) (sym r) s.shaped;
       valid = λ b _. subst (λ (es : List Effect). AllValid es b) (sym o) tt;
+      covered = subst (λ (es : List Effect). AllOwn es (no_overlay None None)) (sym o) tt;
       sized = λ n. absurd (subst T (sym i ∙ n) tt);
+      tabled = tabled_same seen v u kept (i ∙ sym h) e r s.tabled;
     }
 
 -- over another: one read more
-pub sound_read : {B : Type 0} (seen : B → SeenData) (v u : Viewed B) (old new : ℕ) (loc : Loc) (value : Value) → IsSound seen v old → (seen v.base).writes ≡ false → (seen u.base).writes ≡ false → u.effects ≡ v.effects
-    → u.reads ≡ v.reads ++ (loc, value) ∷ [] → IsNew loc v.reads → is_of loc value ≡ true → new ≡ min (old + capped (read_size (loc, value))) (2 ^ 128 - 1) → IsSound seen u new
-sound_read {B} seen v u old new loc value s h i e r n o z =
+pub sound_read : {B : Type 0} (seen : B → SeenData) (v u : Viewed B) (old new : ℕ) (kept free : Option OverlayData) (loc : Loc) (value : Value) → IsSound seen v old kept → (seen v.base).writes ≡ false → (seen u.base).writes ≡ false → u.effects ≡ v.effects
+    → u.reads ≡ v.reads ++ (loc, value) ∷ [] → IsNew loc v.reads → is_of loc value ≡ true → new ≡ min (old + capped (read_size (loc, value))) (2 ^ 128 - 1) → free ≡ None → IsSound seen u new free
+sound_read {B} seen v u old new kept free loc value s h i e r n o z f =
     let same : own_of seen u ≡ own_of seen v = ap (λ (x : Bool). own x u.effects) (i ∙ sym h) ∙ ap (own (seen v.base).writes) e in record {
-      none = e ∙ s.none;
       fresh = subst Fresh (sym r) (fresh_push v.reads (loc, value) s.fresh n);
       shaped = subst (λ (rs : ReadList). ByRecursion (λ r. is_of r.0 r.1 ≡ true) rs) (sym r) (all_push _ v.reads (loc, value) s.shaped o);
       valid = λ b t.
@@ -87,6 +99,8 @@ sound_read {B} seen v u old new loc value s h i e r n o z =
       sized = λ _.
           size_read v.reads v.effects (loc, value) old new (s.sized h) z
           ∙ (λ j. capped (trace_size (sym r j) (sym e j)));
+      covered = subst (λ (es : List Effect). AllOwn es (no_overlay None None)) (sym same) s.covered;
+      tabled = λ x q. no_tables seen u x (sym f ∙ q);
     }
 
 pub passes_push : (reads : ReadList) (loc : Loc) (value : Value) (w : WorldData) → Passes reads w → At w loc ≡ value → Passes (reads ++ (loc, value) ∷ []) w
@@ -98,37 +112,45 @@ own_none true = refl
 own_none false = refl
 
 -- a view at first
-pub sound_new : {B : Type 0} (seen : B → SeenData) (v : Viewed B) → v.reads ≡ [] → v.effects ≡ [] → IsSound seen v 0
-sound_new {B} seen v r e = record {
-  none = e;
-  fresh = subst Fresh (sym r) tt;
-  shaped = subst (λ (rs : ReadList). ByRecursion (λ r. is_of r.0 r.1 ≡ true) rs) (sym r) tt;
-  valid = λ b _. subst (λ (es : List Effect). AllValid es b) (sym (ap (own (seen v.base).writes) e ∙ own_none (seen v.base).writes)) tt;
-  sized = λ _. (λ j. capped (trace_size (sym r j) (sym e j)));
-}
+pub sound_new : {B : Type 0} (seen : B → SeenData) (v : Viewed B) → v.reads ≡ [] → v.effects ≡ [] → IsSound seen v 0 None
+sound_new {B} seen v r e =
+    let o : own_of seen v ≡ [] = ap (own (seen v.base).writes) e ∙ own_none (seen v.base).writes in record {
+      fresh = subst Fresh (sym r) tt;
+      shaped = subst (λ (rs : ReadList). ByRecursion (λ r. is_of r.0 r.1 ≡ true) rs) (sym r) tt;
+      valid = λ b _. subst (λ (es : List Effect). AllValid es b) (sym o) tt;
+      covered = subst (λ (es : List Effect). AllOwn es (no_overlay None None)) (sym o) tt;
+      sized = λ _. (λ j. capped (trace_size (sym r j) (sym e j)));
+      tabled = no_tables seen v;
+    }
 
 -- a view whose base was asked for a program
-pub sound_asked : {B : Type 0} (seen : B → SeenData) (v u : Viewed B) (size : ℕ) → IsSound seen v size → (seen u.base).writes ≡ (seen v.base).writes → u.effects ≡ v.effects → u.reads ≡ v.reads → IsSound seen u size
-sound_asked {B} seen v u size s i e r = record {
-  none = e ∙ s.none;
+coe_stands : {x y : Bool} {o p : Option WorldData} {rs ss : ReadList} → y ≡ x → p ≡ o → ss ≡ rs → (b : WorldData) → stands_by y p ss b → stands_by x o rs b
+coe_stands {x} {y} {o} {p} {rs} {ss} i w r b t = subst (λ (q : Bool × Option WorldData × ReadList). stands_by q.0 q.1 q.2 b) (λ j. (i j, w j, r j)) t
+
+pub sound_asked : {B : Type 0} (seen : B → SeenData) (v u : Viewed B) (size : ℕ) (kept : Option OverlayData) → IsSound seen v size kept → (seen u.base).writes ≡ (seen v.base).writes → (seen u.base).world ≡ (seen v.base).world → u.effects ≡ v.effects → u.reads ≡ v.reads → IsSound seen u size kept
+sound_asked {B} seen v u size kept s i w e r = record {
   fresh = subst Fresh (sym r) s.fresh;
   shaped = subst (λ (rs : ReadList). ByRecursion (λ r. is_of r.0 r.1 ≡ true) rs) (sym r) s.shaped;
-  valid = λ b _. subst (λ (es : List Effect). AllValid es b) (sym (ap (own (seen u.base).writes) (e ∙ s.none) ∙ own_none (seen u.base).writes)) tt;
+  valid = λ b t.
+      let before : stands_by (seen v.base).writes (seen v.base).world v.reads b = coe_stands i w r b t in
+      subst (λ (es : List Effect). AllValid es b) (sym (own_same seen v u i e)) (s.valid b before);
+  covered = subst (λ (es : List Effect). AllOwn es (no_overlay None None)) (sym (own_same seen v u i e)) s.covered;
   sized = λ n. s.sized (sym i ∙ n) ∙ (λ j. capped (trace_size (sym r j) (sym e j)));
+  tabled = tabled_same seen v u kept i e r s.tabled;
 }
 
--- A view without effects shows its base's state.
-pub shown_under : {B : Type 0} (seen : B → SeenData) (v u : Viewed B) (x : WorldData) → v.effects ≡ [] → (s : Showed seen v u x) → x ≡ s.under
-shown_under seen v u x e s = s.over ∙ ap (λ (es : List Effect). Applied es s.under) (ap (own (seen v.base).writes) e ∙ own_none (seen v.base).writes)
+now_under : (writes : Bool) (es : List Effect) → writes ≡ true → own writes es ≡ []
+now_under true es h = refl
+now_under false es h = absurd (subst T (sym h) tt)
 
--- what a base has is what the view shows
-pub shown_value : {B : Type 0} (seen : B → SeenData) (v u : Viewed B) (loc : Loc) (value : Value) → v.effects ≡ [] → ((b : WorldData) → Stands (seen v.base) u.reads b → At b loc ≡ value)
+-- what a base that writes has is what the view shows
+pub shown_now : {B : Type 0} (seen : B → SeenData) (v u : Viewed B) (loc : Loc) (value : Value) → (seen v.base).writes ≡ true → ((b : WorldData) → Stands (seen v.base) u.reads b → At b loc ≡ value)
     → (x : WorldData) → Showed seen v u x → At x loc ≡ value
-shown_value seen v u loc value e f x s = ap (λ (w : WorldData). At w loc) (shown_under seen v u x e s) ∙ f s.under s.stands
+shown_now {B} seen v u loc value h f x s = ap (λ (w : WorldData). At w loc) (s.over ∙ ap (λ (es : List Effect). Applied es s.under) (now_under (seen v.base).writes v.effects h)) ∙ f s.under s.stands
 
 -- the effects of a view are valid in each state that passes its reads
-pub sound_valid : {B : Type 0} (seen : B → SeenData) (v : Viewed B) (size : ℕ) → IsSound seen v size → (seen v.base).writes ≡ false → (w : WorldData) → IsTree w.tree → Passes v.reads w → AllValid v.effects w
-sound_valid {B} seen v size s h w t p =
+pub sound_valid : {B : Type 0} (seen : B → SeenData) (v : Viewed B) (size : ℕ) (kept : Option OverlayData) → IsSound seen v size kept → (seen v.base).writes ≡ false → (w : WorldData) → IsTree w.tree → Passes v.reads w → AllValid v.effects w
+sound_valid {B} seen v size kept s h w t p =
     subst (λ (es : List Effect). AllValid es w) (ap (λ (x : Bool). own x v.effects) h) (s.valid w (from_passes (seen v.base).writes (seen v.base).world v.reads w h t p))
 
 -- ---- what comes of a read

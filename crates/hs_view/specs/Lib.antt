@@ -1,8 +1,14 @@
+pub mod Acts
 pub mod Causes
+pub mod Fetches
 pub mod Fixed
 pub mod Kept
+pub mod Known
+pub mod Pushes
+pub mod Puts
 pub mod Seen
 pub mod Size
 pub mod Sound
 pub mod Steps
+pub mod Trace
 pub mod View

@@ -1,12 +1,10 @@
 -- The size of a trace: 64 for each pair and each effect, 16 for each text and each path in them, and their bytes.
-use Rattle.std.specs.Prelude.{ℕ, ◌+◌, ◌-◌, ◌^◌, min, List, [], ◌∷◌, Option, Some, None, length}
+use Rattle.std.specs.Prelude.{ℕ, ◌+◌, List, [], ◌∷◌, Option, Some, None}
 use Rattle.std.specs.FinMap.{entries}
-use Rattle.hs_world.specs.Paths.{Path}
 use Rattle.hs_world.specs.Reads.{ReadList}
+pub use Rattle.hs_world.specs.Sizes.{capped, entries_size, path_bytes, path_size, text_size}
 use Rattle.hs_world.specs.declared.effect.Effect.{Effect}
 use Rattle.hs_world.specs.declared.effect.Effect.TheVariants.{SetVar, UnsetVar, SetFunc, UnsetFunc, SetParams, SetCwd, Put, Append, MakeDir, Remove, Emit, PushInput, SetInput, PushRoutes, SetRoutes, SetKept, ExecInput, Replied}
-use Rattle.hs_world.specs.declared.entry.Entry.{Entry}
-use Rattle.hs_world.specs.declared.entry.Entry.TheVariants as entry
 use Rattle.hs_world.specs.declared.loc.Loc.{Loc}
 use Rattle.hs_world.specs.declared.loc.Loc.TheVariants as loc
 use Rattle.hs_world.specs.declared.loc.Value.{Value}
@@ -16,20 +14,9 @@ use Rattle.hs_world.specs.declared.route.Route.{Route}
 use Rattle.hs_world.specs.declared.route.Route.TheVariants as route
 use Rattle.hs_world.specs.declared.var.Var.{Var}
 
-abbrev pub text_size : List ℕ → ℕ
-text_size text = 16 + length text
-
 abbrev pub texts_size : List (List ℕ) → ℕ
 texts_size [] = 0
 texts_size (x ∷ xs) = text_size x + texts_size xs
-
--- the bytes of its names
-abbrev pub path_bytes : Path → ℕ
-path_bytes [] = 0
-path_bytes (x ∷ xs) = length x + path_bytes xs
-
-abbrev pub path_size : Path → ℕ
-path_size path = 16 + path_bytes path
 
 abbrev pub maybe_size : Option (List ℕ) → ℕ
 maybe_size None = 0
@@ -50,14 +37,6 @@ route_size _ = 0
 abbrev pub routes_size : List Route → ℕ
 routes_size [] = 0
 routes_size (r ∷ rs) = route_size r + routes_size rs
-
-abbrev pub entry_size : Entry → ℕ
-entry_size (entry.File text) = text_size text
-entry_size _ = 0
-
-abbrev pub entries_size : List (Path × Entry) → ℕ
-entries_size [] = 0
-entries_size (e ∷ es) = path_size e.0 + entry_size e.1 + entries_size es
 
 abbrev pub reply_size : Reply → ℕ
 reply_size reply = text_size reply.out + text_size reply.err + entries_size (entries reply.tree)
@@ -117,7 +96,3 @@ effects_size (e ∷ es) = 64 + effect_size e + effects_size es
 
 abbrev pub trace_size : ReadList → List Effect → ℕ
 trace_size reads effects = reads_size reads + effects_size effects
-
--- a number as 128 bits keep it whose sums do not wrap
-abbrev pub capped : ℕ → ℕ
-capped n = min n (2 ^ 128 - 1)

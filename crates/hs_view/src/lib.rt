@@ -6,11 +6,19 @@ mod fixed;
 mod getters;
 mod halt;
 mod kept;
+mod own;
+mod pushes;
 mod size;
+mod tabled;
+mod trace;
 mod view;
 
 pub use base::Base;
 pub use fixed::Fixed;
 pub use halt::{Halt, SpentKind};
 pub use kept::Kept;
-pub use view::{Trace, View};
+pub use trace::Trace;
+pub use view::View;
+
+#[cfg(test)]
+mod tests;

@@ -1,10 +1,10 @@
-//! The size of what was read. Sums stay at the last number of 128 bits, which is beyond every limit.
+//! The size of what was read and done. Sums stay at the last number of 128 bits, which is beyond every limit.
 
 ghost use Rattle.std.specs.Prelude.{◌≡◌, ◌+◌, ◌-◌, ◌^◌, min};
-ghost use Rattle.hs_view.specs.Size.{capped, loc_size, maybe_size, names_size, path_bytes, path_size, read_size, route_size, routes_size, text_size, texts_size, value_size, var_size};
+ghost use Rattle.hs_view.specs.Size.{capped, effect_size, loc_size, maybe_size, names_size, path_bytes, path_size, read_size, reply_size, route_size, routes_size, text_size, texts_size, value_size, var_size};
 
 use hs_text::{Text, TextList};
-use hs_world::{Loc, PathName, Route, Value, Var};
+use hs_world::{Effect, Loc, PathName, Reply, Route, Value, Var};
 
 fn text_size(text: &Text) -> u128
     ensures { result ≡ capped (text_size text.now) }
@@ -124,4 +124,45 @@ pub fn read_size(loc: &Loc, value: &Value) -> u128
     64u128
         .saturating_add(loc_size(loc))
         .saturating_add(value_size(value))
+}
+
+fn reply_size(reply: &Reply) -> u128
+    ensures { result ≡ capped (reply_size reply.now) }
+{
+    text_size(&reply.out)
+        .saturating_add(text_size(&reply.err))
+        .saturating_add(reply.tree.kept_size())
+}
+
+/// The size of an effect, without the 64 bytes that each takes.
+pub fn effect_size(effect: &Effect) -> u128
+    ensures { result ≡ capped (effect_size effect.now) }
+{
+    match effect {
+        Effect::SetVar(name, var) => text_size(name).saturating_add(maybe_size(&var.value)),
+        Effect::UnsetVar(name) => text_size(name),
+        Effect::SetFunc(name, _) => text_size(name),
+        Effect::UnsetFunc(name) => text_size(name),
+        Effect::SetParams(params) => texts_size(params.as_slice()),
+        Effect::SetCwd(path) => path_size(path),
+        Effect::Put(path, text) => file_size(path, text),
+        Effect::Append(path, text) => file_size(path, text),
+        Effect::MakeDir(path) => path_size(path),
+        Effect::Remove(path) => path_size(path),
+        Effect::Emit(_, text) => text_size(text),
+        Effect::PushInput(text) => text_size(text),
+        Effect::SetInput(text) => text_size(text),
+        Effect::PushRoutes(routes) => routes_size(routes.as_slice()),
+        Effect::SetRoutes(routes) => routes_size(routes.as_slice()),
+        Effect::SetKept(_, text) => maybe_size(text),
+        Effect::ExecInput(text) => text_size(text),
+        Effect::Replied(reply) => reply_size(reply),
+        _ => 0,
+    }
+}
+
+fn file_size(path: &PathName, text: &Text) -> u128
+    ensures { result ≡ capped (path_size path.now + text_size text.now) }
+{
+    path_size(path).saturating_add(text_size(text))
 }

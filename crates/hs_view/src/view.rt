@@ -3,31 +3,36 @@
 ghost use Rattle.std.specs.Prelude.{◌≡◌, ◌≢◌, ◌≤◌, ◌<◌, ◌↔◌, ◌^◌, ◌∷◌, ◌++◌, [], ℕ, true, false, if◌then◌else◌, IfOk, OnOk, OnErr, IfSome, Ok, Err};
 ghost use Rattle.hs_view.specs.Causes.{Rose};
 ghost use Rattle.hs_view.specs.Seen.{Gained, is_of};
+ghost use Rattle.hs_view.specs.Fetches.{Fetches};
+ghost use Rattle.hs_view.specs.Known.{ends_in, is_of_tables, routes_in, tables_of, IsNine, IsSettled, IsTold, Tabled, Untold};
 ghost use Rattle.hs_view.specs.Size.{trace_size};
 ghost use Rattle.hs_view.specs.View.{IsTree, Keeps, Showed, Stands, quiet};
-ghost use Rattle.hs_world.specs.Reads.{Fresh, IsNew, Passes};
+ghost use Rattle.hs_world.specs.Reads.{Fresh, IsNew, IsRead, Passes};
+ghost use Rattle.hs_overlay.specs.Shown.{lacks, over_value};
 ghost use Rattle.hs_world.specs.World.{AllValid, At, WorldData};
+
+mod put;
 
 use crate::base::Base;
 use crate::halt::{Halt, SpentKind};
+use crate::own::OwnEffects;
 use crate::size::read_size;
+use crate::tabled::{is_of_tables, overlay_of};
+use crate::trace::Trace;
+use hs_overlay::Overlay;
 use hs_text::TextList;
-use hs_world::{Effects, Loc, Reads, Reply, Value};
+use hs_world::{Loc, Reads, Reply, Value};
 use std::alloc::{AllocError, Global};
 use std::marker::Model;
 
-/// What was read of a base, and what was done on it.
-#[derive(Drop)]
-pub struct Trace {
-    pub reads: Reads,
-    pub effects: Effects,
-}
-
 /// A state as a command sees it: its base's, with the command's own effects.
 pub struct View<B: Base> {
+    alloc: Global,
     base: B,
     reads: Reads,
-    effects: Effects,
+    effects: OwnEffects,
+    /// What the effects make of the base's state, while it is kept. A call that needs it makes it by one pass over them.
+    overlay: Option<Overlay>,
     trace: u64,
     size: u128,
 }
@@ -44,7 +49,7 @@ impl<B: Base> Model for View<B> {
 
     ghost view = { λ a. record { base = a.base; reads = a.reads; effects = a.effects; trace = a.trace } };
 
-    ghost invariant = { λ a. IsSound B.seen (record { base = a.base; reads = a.reads; effects = a.effects; trace = a.trace }) a.size };
+    ghost invariant = { λ a. IsSound B.seen (record { base = a.base; reads = a.reads; effects = a.effects; trace = a.trace }) a.size a.overlay };
 }
 
 impl<B: Base> View<B> {
@@ -57,9 +62,11 @@ impl<B: Base> View<B> {
         ensures trace { result.trace ≡ trace }
     {
         View {
+            alloc,
             base,
             reads: Reads::new(alloc),
-            effects: Effects::new(alloc),
+            effects: OwnEffects::new(alloc),
+            overlay: None,
             trace,
             size: 0,
         }
@@ -71,6 +78,7 @@ impl<B: Base> View<B> {
         ensures answer { IfOk result (λ value. (u : WorldData) → Showed B.seen self.old self.new u → At u loc.now ≡ value) }
         ensures shape { IfOk result (λ value. is_of loc.now value ≡ true) }
         ensures effects { self.new.effects ≡ self.old.effects }
+        ensures world { (B.seen self.new.base).world ≡ (B.seen self.old.base).world }
         ensures keeps { Keeps B.seen self.old self.new result }
         ensures fault { result ≡ Err Halt.Fault → Rose (B.seen self.old.base).faults (B.seen self.new.base).faults }
         ensures trace { (B.seen self.old.base).writes ≡ false → trace_size self.old.reads self.old.effects ≤ self.old.trace → (result ≡ Err Halt.Trace ↔ self.new.trace < trace_size self.new.reads self.new.effects) }
@@ -78,8 +86,10 @@ impl<B: Base> View<B> {
         ensures spent { (k : SpentKind) → result ≢ Err (Halt.Spent k) }
         ensures outside { result ≢ Err Halt.Outside }
     {
-        let _size = &self.size;
-        self.fetch(loc)
+        if self.base.writes() {
+            return self.get_now(loc);
+        }
+        self.get_over(loc)
     }
 
     /// Runs an outside program in the base's state. It adds no effect: what came of it is put by the caller.
@@ -104,35 +114,192 @@ impl<B: Base> View<B> {
         ensures base { result.0 ≡ self.base }
         ensures reads { result.1.reads ≡ self.reads }
         ensures effects { result.1.effects ≡ self.effects }
+        ensures written { result.1.written ≡ (B.seen self.base).writes }
         ensures fresh { Fresh self.reads }
         ensures valid { (B.seen self.base).writes ≡ false → (w : WorldData) → IsTree w.tree → Passes self.reads w → AllValid self.effects w }
     {
+        let written = self.base.writes();
         let View {
+            alloc,
             base,
             reads,
             effects,
+            overlay,
             trace: _,
-            size: _,
+            size,
         } = self;
-        (base, Trace { reads, effects })
+        let trace = Trace {
+            alloc,
+            reads,
+            effects,
+            overlay,
+            size,
+            written,
+        };
+        (base, trace)
     }
 
-    /// What the base has at a location. Where it does not write, that is in the reads from then on.
-    fn fetch(&mut self, loc: &Loc) -> Result<Value, Halt>
-        ensures answer { IfOk result (λ value. (b : WorldData) → Stands (B.seen self.old.base) self.new.reads b → At b loc.now ≡ value) }
+    /// The value at a location of the state that a base that writes tells.
+    fn get_now(&mut self, loc: &Loc) -> Result<Value, Halt>
+        requires writes { (B.seen self.old.base).writes ≡ true }
+        ensures answer { IfOk result (λ value. (u : WorldData) → Showed B.seen self.old self.new u → At u loc.now ≡ value) }
         ensures shape { IfOk result (λ value. is_of loc.now value ≡ true) }
         ensures effects { self.new.effects ≡ self.old.effects }
+        ensures world { (B.seen self.new.base).world ≡ (B.seen self.old.base).world }
         ensures keeps { Keeps B.seen self.old self.new result }
         ensures fault { result ≡ Err Halt.Fault → Rose (B.seen self.old.base).faults (B.seen self.new.base).faults }
-        ensures trace { (B.seen self.old.base).writes ≡ false → trace_size self.old.reads self.old.effects ≤ self.old.trace → (result ≡ Err Halt.Trace ↔ self.new.trace < trace_size self.new.reads self.new.effects) }
-        ensures through { (B.seen self.old.base).writes ≡ true → result ≢ Err Halt.Trace }
+        ensures trace { result ≢ Err Halt.Trace }
         ensures spent { (k : SpentKind) → result ≢ Err (Halt.Spent k) }
         ensures outside { result ≢ Err Halt.Outside }
     {
-        if self.base.writes() {
-            return self.fetch_now(loc);
+        self.fetch_now(loc)
+    }
+
+    /// The value at a location of a state that is told by reads.
+    fn get_over(&mut self, loc: &Loc) -> Result<Value, Halt>
+        requires writes { (B.seen self.old.base).writes ≡ false }
+        ensures answer { IfOk result (λ value. (u : WorldData) → Showed B.seen self.old self.new u → At u loc.now ≡ value) }
+        ensures shape { IfOk result (λ value. is_of loc.now value ≡ true) }
+        ensures fetches { Fetches B.seen self.old self.new result }
+    {
+        let overlay = self.settled(loc)?;
+        match overlay.own(loc)? {
+            Some(value) => {
+                self.keep(overlay);
+                Ok(value)
+            }
+            None => self.get_under(overlay, loc),
         }
-        self.fetch_once(loc)
+    }
+
+    /// The value over that of the base at the same location.
+    fn get_under(&mut self, overlay: Overlay, loc: &Loc) -> Result<Value, Halt>
+        requires writes { (B.seen self.old.base).writes ≡ false }
+        requires tables { overlay ≡ tables_of B.seen self.old }
+        ensures value { IfOk result (λ value. (b : WorldData) → Stands (B.seen self.old.base) self.new.reads b → over_value overlay loc.now (At b loc.now) ≡ value) }
+        ensures shape { IfOk result (λ value. is_of loc.now value ≡ true) }
+        ensures fetches { Fetches B.seen self.old self.new result }
+    {
+        let base = self.fetch_once(loc)?;
+        let value = overlay.over(loc, base)?;
+        self.keep_unless(overlay, is_of_tables(loc));
+        Ok(value)
+    }
+
+    /// Keeps the tables of the effects.
+    fn keep(&mut self, overlay: Overlay)
+        requires { overlay ≡ tables_of B.seen self.old }
+        ensures { self.new ≡ self.old }
+    {
+        self.overlay = Some(overlay);
+    }
+
+    /// Keeps them, unless more is known now.
+    fn keep_unless(&mut self, overlay: Overlay, told: bool)
+        requires { told ≡ false → overlay ≡ tables_of B.seen self.old }
+        ensures { self.new ≡ self.old }
+    {
+        if !told {
+            self.keep(overlay);
+        }
+    }
+
+    /// The tables of the effects, with what was read of the base's routes. They are kept no more.
+    fn tables(&mut self) -> Result<Overlay, Halt>
+        requires writes { (B.seen self.old.base).writes ≡ false }
+        ensures tables { IfOk result (λ overlay. Tabled B.seen self.old overlay) }
+        ensures same { self.new ≡ self.old }
+        ensures halt { (h : Halt) → result ≡ Err h → h ≡ Halt.NoMemory }
+    {
+        match self.overlay.take() {
+            Some(overlay) => Ok(overlay),
+            None => self.build(),
+        }
+    }
+
+    fn build(&self) -> Result<Overlay, Halt>
+        requires writes { (B.seen self.now.base).writes ≡ false }
+        ensures tables { IfOk result (λ overlay. Tabled B.seen self.now overlay) }
+        ensures halt { (h : Halt) → result ≡ Err h → h ≡ Halt.NoMemory }
+    {
+        match overlay_of(self.alloc, &self.reads, self.effects.as_slice()) {
+            Ok(overlay) => Ok(overlay),
+            Err(_) => Err(Halt::NoMemory),
+        }
+    }
+
+    /// The tables of the effects, with what is known of the base's routes; these are read where the location hangs on them.
+    fn settled(&mut self, loc: &Loc) -> Result<Overlay, Halt>
+        requires writes { (B.seen self.old.base).writes ≡ false }
+        ensures tables { IfOk result (λ overlay. Tabled B.seen self.new overlay) }
+        ensures settled { IfOk result (λ overlay. IsSettled loc.now overlay self.new.reads) }
+        ensures fetches { Fetches B.seen self.old self.new result }
+    {
+        match self.sure(loc)? {
+            Some(overlay) => Ok(overlay),
+            None => {
+                self.learn_ends()?;
+                self.settled_further(loc)
+            }
+        }
+    }
+
+    fn settled_further(&mut self, loc: &Loc) -> Result<Overlay, Halt>
+        requires writes { (B.seen self.old.base).writes ≡ false }
+        requires ends { IsTold (ends_in self.old.reads) }
+        ensures tables { IfOk result (λ overlay. Tabled B.seen self.new overlay) }
+        ensures settled { IfOk result (λ overlay. IsSettled loc.now overlay self.new.reads) }
+        ensures fetches { Fetches B.seen self.old self.new result }
+    {
+        match self.sure(loc)? {
+            Some(overlay) => Ok(overlay),
+            None => {
+                self.learn_routes()?;
+                self.tables()
+            }
+        }
+    }
+
+    /// The tables, unless the value at the location hangs on more than is known.
+    fn sure(&mut self, loc: &Loc) -> Result<Option<Overlay>, Halt>
+        requires writes { (B.seen self.old.base).writes ≡ false }
+        ensures tables { IfOk result (λ sure. IfSome sure (λ overlay. Tabled B.seen self.new overlay)) }
+        ensures settled { IfOk result (λ sure. IfSome sure (λ overlay. lacks overlay loc.now ≡ false)) }
+        ensures same { self.new ≡ self.old }
+        ensures halt { (h : Halt) → result ≡ Err h → h ≡ Halt.NoMemory }
+    {
+        let overlay = self.tables()?;
+        if overlay.lacks(loc)? {
+            drop(overlay);
+            return Ok(None);
+        }
+        Ok(Some(overlay))
+    }
+
+    /// Reads where the base's descriptors lead.
+    fn learn_ends(&mut self) -> Result<(), Halt>
+        requires writes { (B.seen self.old.base).writes ≡ false }
+        ensures known { OnOk result (IsTold (ends_in self.new.reads)) }
+        ensures fetches { Fetches B.seen self.old self.new result }
+    {
+        let _ends = self.fetch_once(&Loc::Ends)?;
+        Ok(())
+    }
+
+    /// Reads the routes of the base's innermost table.
+    fn learn_routes(&mut self) -> Result<(), Halt>
+        requires writes { (B.seen self.old.base).writes ≡ false }
+        ensures known { OnOk result (IsNine (routes_in self.new.reads)) }
+        ensures ends { OnOk result (ends_in self.new.reads ≡ ends_in self.old.reads) }
+        ensures fetches { Fetches B.seen self.old self.new result }
+    {
+        match self.fetch_once(&Loc::Routes)? {
+            Value::Routes(routes) => {
+                let _nine = routes.len();
+                Ok(())
+            }
+            _ => unreachable!(),
+        }
     }
 
     fn fetch_now(&mut self, loc: &Loc) -> Result<Value, Halt>
@@ -140,6 +307,7 @@ impl<B: Base> View<B> {
         ensures answer { IfOk result (λ value. (b : WorldData) → Stands (B.seen self.old.base) self.new.reads b → At b loc.now ≡ value) }
         ensures shape { IfOk result (λ value. is_of loc.now value ≡ true) }
         ensures effects { self.new.effects ≡ self.old.effects }
+        ensures world { (B.seen self.new.base).world ≡ (B.seen self.old.base).world }
         ensures keeps { Keeps B.seen self.old self.new result }
         ensures fault { result ≡ Err Halt.Fault → Rose (B.seen self.old.base).faults (B.seen self.new.base).faults }
         ensures trace { result ≢ Err Halt.Trace }
@@ -150,8 +318,12 @@ impl<B: Base> View<B> {
         Ok(value)
     }
 
+    /// What the base has at a location, which is in the reads from then on.
     fn fetch_once(&mut self, loc: &Loc) -> Result<Value, Halt>
         requires writes { (B.seen self.old.base).writes ≡ false }
+        ensures read { IfOk result (λ value. IsRead self.new.reads loc.now value) }
+        ensures fresh { Fresh self.new.reads }
+        ensures known { OnOk result (Untold loc.now self.old.reads self.new.reads) }
         ensures answer { IfOk result (λ value. (b : WorldData) → Stands (B.seen self.old.base) self.new.reads b → At b loc.now ≡ value) }
         ensures shape { IfOk result (λ value. is_of loc.now value ≡ true) }
         ensures effects { self.new.effects ≡ self.old.effects }
@@ -165,6 +337,7 @@ impl<B: Base> View<B> {
             return Ok(value.clone()?);
         }
         let value = read_base(&mut self.base, &mut self.reads, loc)?;
+        drop(self.overlay.take());
         self.size = self.size.saturating_add(read_size(loc, &value));
         unless_over(value, self.size > u128::from(self.trace))
     }

@@ -1,6 +1,17 @@
 use Rattle.std.proofs.Common.{[], sym, ap, ◌∙◌, append-nil, arith, refl}
 use Rattle.hs_view.proofs.Keeping.{keeps_read}
+use Rattle.hs_view.proofs.Sounds.{sound_now}
 use Rattle.hs_view.proofs.view.View.fetch_now.Goals as goal
+
+pub invariant_of-self : goal.invariant_of-self
+invariant_of-self g c =
+    let h = ap (λ v. (g.B.Base.seen v.base).writes) c.self.view_is ∙ c.requires.writes in
+    sound_now g.B.Base.seen _ _ _ _ c.self.invariant h (c.in_err-value.ensures.writes ∙ h) refl refl
+
+pub invariant_of-self-2 : goal.invariant_of-self-2
+invariant_of-self-2 g c =
+    let h = ap (λ v. (g.B.Base.seen v.base).writes) c.self.view_is ∙ c.requires.writes in
+    sound_now g.B.Base.seen _ _ _ _ c.self.invariant h (c.in_ok-value.ensures.writes ∙ h) refl refl
 
 pub returns-clause-keeps : goal.returns-clause-keeps
 returns-clause-keeps g c =
