@@ -146,16 +146,23 @@ fn table(alloc: Global, to: To<'_>) -> Result<Routes, AllocError> {
     Ok(Routes::from_vec(routes))
 }
 
+/// A tree of one entry.
+fn left(alloc: Global, path: PathName, entry: Entry) -> Tree {
+    let mut tree = Tree::new(alloc);
+    match tree.insert(path, entry) {
+        Ok(()) => tree,
+        Err(_) => Tree::new(alloc),
+    }
+}
+
 /// What a program replies that took all of standard input.
 fn reply(alloc: Global, file: &str) -> Result<Reply, AllocError> {
-    let mut tree = Tree::new(alloc);
     let bytes = Entry::File(text(alloc, "k")?);
-    let _ = tree.insert(path(alloc, file)?, bytes);
     Ok(Reply {
         out: Text::new(alloc),
         err: Text::new(alloc),
         status: 3,
-        tree,
+        tree: left(alloc, path(alloc, file)?, bytes),
         found: Found::Found,
     })
 }
