@@ -1,5 +1,9 @@
 //! The program over streams in memory. The rows say what the words write, and how the program ends.
 
+ghost use Rattle.std.specs.Arc.{arc_value};
+ghost use Rattle.std.specs.Prelude.{◌≡◌, ◌≤◌, true};
+ghost use Rattle.sh_leaf.specs.Built.{is_built};
+
 use crate::ending::{Answer, Ending, Report};
 use crate::gate::NoGate;
 use crate::run::plain;
@@ -9,7 +13,7 @@ use hs_text::{Text, TextList};
 use hs_world::{Entry, Limits, PathName, Tree, World};
 use sh_leaf::{SpentKind, built};
 use sh_script::parse;
-use sh_syntax::{Fault, Opening};
+use sh_syntax::{Fault, Opening, Script};
 use std::alloc::{AllocError, Global};
 use std::sync::Arc;
 use std::test::Fail;
@@ -48,6 +52,13 @@ fn run_on(
     Ok(Shown { out, err, answer })
 }
 
+/// Two sinks that take all.
+fn sinks(alloc: Global) -> Result<(MemorySink, MemorySink), AllocError> {
+    let out = MemorySink::new(alloc, 4096, Vec::new(alloc))?;
+    let err = MemorySink::new(alloc, 4096, Vec::new(alloc))?;
+    Ok((out, err))
+}
+
 /// Runs the program with these words and sinks over no file.
 fn run_over(
     alloc: Global,
@@ -55,14 +66,15 @@ fn run_over(
     out: MemorySink,
     err: MemorySink,
 ) -> Result<Shown, AllocError> {
-    let mut host = MemoryHost::new(Tree::new(alloc), Vec::new(alloc))?;
-    run_on(alloc, words, &mut host, out, err)
+    match MemoryHost::new(Tree::new(alloc), Vec::new(alloc)) {
+        Ok(mut host) => run_on(alloc, words, &mut host, out, err),
+        Err(error) => Err(error),
+    }
 }
 
 /// Runs the program with these words over no file and sinks that take all.
 fn run(alloc: Global, words: &[&[u8]]) -> Result<Shown, AllocError> {
-    let out = MemorySink::new(alloc, 4096, Vec::new(alloc))?;
-    let err = MemorySink::new(alloc, 4096, Vec::new(alloc))?;
+    let (out, err) = sinks(alloc)?;
     run_over(alloc, words, out, err)
 }
 
@@ -207,6 +219,24 @@ fn a_line_that_cannot_be_written_changes_nothing_else(rt: HostRuntime) -> Result
     Ok(())
 }
 
+/// Runs a script over no file.
+fn run_plain(
+    alloc: Global,
+    script: Arc<Script>,
+    world: World,
+    limits: Limits,
+    out: &mut MemorySink,
+    err: &mut MemorySink,
+) -> Option<(Ending, Report)>
+    requires built { is_built (arc_value script) ≡ true }
+    requires bytes { 2097152 ≤ limits.bytes }
+{
+    match MemoryHost::new(Tree::new(alloc), Vec::new(alloc)) {
+        Ok(mut host) => Some(plain(alloc, script, world, limits, &mut host, out, err)),
+        Err(_) => None,
+    }
+}
+
 #[test]
 fn a_run_with_one_turn_does_one_command(rt: HostRuntime) -> Result<(), Fail> {
     let alloc = rt.alloc();
@@ -219,7 +249,6 @@ fn a_run_with_one_turn_does_one_command(rt: HostRuntime) -> Result<(), Fail> {
     };
     let mut out = MemorySink::new(alloc, 2, Vec::new(alloc))?;
     let mut err = MemorySink::new(alloc, 2, Vec::new(alloc))?;
-    let mut host = MemoryHost::new(Tree::new(alloc), Vec::new(alloc))?;
     let world = World::new(
         alloc,
         Tree::new(alloc),
@@ -229,7 +258,8 @@ fn a_run_with_one_turn_does_one_command(rt: HostRuntime) -> Result<(), Fail> {
         Text::new(alloc),
         limits,
     )?;
-    let (ending, report) = plain(alloc, script, world, limits, &mut host, &mut out, &mut err);
+    let ran = run_plain(alloc, script, world, limits, &mut out, &mut err);
+    let (ending, report) = ran.ok_or("no memory for a host")?;
     assert_eq!(rt; ending, Ending::Spent(SpentKind::Turns));
     assert_eq!(rt; report.count, 2);
     assert!(rt; out.written() == b"a\n".as_slice());
@@ -238,50 +268,90 @@ fn a_run_with_one_turn_does_one_command(rt: HostRuntime) -> Result<(), Fail> {
 }
 
 /// Whether the empty script ends so over this host, with this line.
-fn ends(
-    alloc: Global,
-    host: &mut MemoryHost,
-    ending: Ending,
-    line: &[u8],
-) -> Result<bool, AllocError> {
-    let out = MemorySink::new(alloc, 4096, Vec::new(alloc))?;
-    let err = MemorySink::new(alloc, 4096, Vec::new(alloc))?;
-    let shown = run_on(alloc, &[b"-c", b""], host, out, err)?;
-    Ok(
-        shown.answer.ending == ending
-            && shown.out.written().is_empty()
-            && shown.err.written() == line,
-    )
+fn is_ended(shown: &Shown, ending: Ending, line: &[u8]) -> bool {
+    shown.answer.ending == ending && shown.out.written().is_empty() && shown.err.written() == line
 }
 
-/// Puts so many empty files into a tree.
-fn put_files(alloc: Global, tree: &mut Tree, count: u32) -> Result<(), AllocError> {
+fn ends_with(
+    alloc: Global,
+    host: &mut MemoryHost,
+    sinks: (MemorySink, MemorySink),
+    ending: Ending,
+    line: &[u8],
+) -> bool {
+    let (out, err) = sinks;
+    match run_on(alloc, &[b"-c", b""], host, out, err) {
+        Ok(shown) => is_ended(&shown, ending, line),
+        Err(_) => false,
+    }
+}
+
+fn ends(alloc: Global, host: &mut MemoryHost, ending: Ending, line: &[u8]) -> bool {
+    match sinks(alloc) {
+        Ok(sinks) => ends_with(alloc, host, sinks, ending, line),
+        Err(_) => false,
+    }
+}
+
+/// Puts an empty file into a tree.
+fn put_file(alloc: Global, tree: &mut Tree, name: &str) -> Result<(), AllocError> {
     let root = PathName::root(alloc);
-    for number in 0..count {
-        let name = format!(in alloc; "f{number}")?;
-        if let Some(path) = PathName::resolve(alloc, &root, name.as_bytes())? {
-            let _ = tree.insert(path, Entry::File(Text::new(alloc)));
-        }
+    if let Some(path) = PathName::resolve(alloc, &root, name.as_bytes())? {
+        let _ = tree.insert(path, Entry::File(Text::new(alloc)));
     }
     Ok(())
 }
 
+/// Puts so many empty files into a tree, and says whether that went well.
+fn put_files(alloc: Global, tree: &mut Tree, count: u32) -> bool {
+    for number in 0..count {
+        let Ok(name) = format!(in alloc; "f{number}") else {
+            return false;
+        };
+        if put_file(alloc, tree, &name).is_err() {
+            return false;
+        }
+    }
+    true
+}
+
+fn is_spent_over(alloc: Global, tree: Tree) -> bool {
+    match MemoryHost::new(tree, Vec::new(alloc)) {
+        Ok(mut host) => ends(
+            alloc,
+            &mut host,
+            Ending::Spent(SpentKind::Tree),
+            b"hs: budget spent: tree\n",
+        ),
+        Err(_) => false,
+    }
+}
+
+fn is_spent_over_files(alloc: Global, count: u32) -> bool {
+    let mut tree = Tree::new(alloc);
+    put_files(alloc, &mut tree, count) && is_spent_over(alloc, tree)
+}
+
 #[test]
 fn files_past_the_limit_are_spent(rt: HostRuntime) -> Result<(), Fail> {
-    let alloc = rt.alloc();
-    let mut tree = Tree::new(alloc);
-    put_files(alloc, &mut tree, 262_145)?;
-    let mut host = MemoryHost::new(tree, Vec::new(alloc))?;
-    let spent = Ending::Spent(SpentKind::Tree);
-    assert!(rt; ends(alloc, &mut host, spent, b"hs: budget spent: tree\n")?);
+    assert!(rt; is_spent_over_files(rt.alloc(), 262_145));
     Ok(())
+}
+
+/// Whether the first call of a host fails the program, and the second does not.
+fn fails_once(alloc: Global, failing: Vec<u64>) -> bool {
+    match MemoryHost::new(Tree::new(alloc), failing) {
+        Ok(mut host) => {
+            ends(alloc, &mut host, Ending::HostFault, b"hs: tree failed\n")
+                && ends(alloc, &mut host, Ending::Done(0), b"")
+        }
+        Err(_) => false,
+    }
 }
 
 #[test]
 fn files_that_cannot_be_loaded_are_a_fault(rt: HostRuntime) -> Result<(), Fail> {
-    let alloc = rt.alloc();
-    let mut host = MemoryHost::new(Tree::new(alloc), vec![in alloc; 1]?)?;
-    assert!(rt; ends(alloc, &mut host, Ending::HostFault, b"hs: tree failed\n")?);
-    assert!(rt; ends(alloc, &mut host, Ending::Done(0), b"")?);
+    let failing = vec![in rt.alloc(); 1]?;
+    assert!(rt; fails_once(rt.alloc(), failing));
     Ok(())
 }
