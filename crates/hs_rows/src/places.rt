@@ -391,7 +391,7 @@ fn what_a_shell_keeps_is_read_back(rt: HostRuntime) -> Result<(), Fail> {
 }
 
 #[test]
-fn files_are_read_back(rt: HostRuntime) -> Result<(), Fail> {
+fn kinds_are_read_back(rt: HostRuntime) -> Result<(), Fail> {
     let rows = [
         after(&[FILE], Shows::Kind("/f", Kind::File)),
         after(&[FOLDER], Shows::Kind("/d", Kind::Dir)),
@@ -405,6 +405,14 @@ fn files_are_read_back(rt: HostRuntime) -> Result<(), Fail> {
             Shows::Kind("/f", Kind::Absent),
         ),
         after(&[Step::Replied("/o")], Shows::Kind("/o", Kind::File)),
+    ];
+    assert!(rt; hold(rt.alloc(), &rows));
+    Ok(())
+}
+
+#[test]
+fn files_are_read_back(rt: HostRuntime) -> Result<(), Fail> {
+    let rows = [
         after(&[FILE], Shows::Bytes("/f", Some("a"))),
         after(&[FILE, Step::Put("/f", "b")], Shows::Bytes("/f", Some("b"))),
         after(
@@ -418,6 +426,14 @@ fn files_are_read_back(rt: HostRuntime) -> Result<(), Fail> {
         ),
         after(&[Step::Replied("/o")], Shows::Bytes("/o", Some("k"))),
         after(&[FILE, Step::Replied("/o")], Shows::Bytes("/f", None)),
+    ];
+    assert!(rt; hold(rt.alloc(), &rows));
+    Ok(())
+}
+
+#[test]
+fn names_of_a_folder_are_read_back(rt: HostRuntime) -> Result<(), Fail> {
+    let rows = [
         after(
             &[Step::Put("/b", ""), Step::Put("/a", "")],
             Shows::Names("/", &["a", "b"]),
