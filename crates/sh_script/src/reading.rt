@@ -2,6 +2,7 @@
 
 ghost use Rattle.std.specs.Prelude.{◌≡◌, ◌≤◌, ◌<◌, ◌^◌, ◌-◌, suc, IfOk, length};
 ghost use Rattle.sh_grammar.specs.Grammar.{max_nesting};
+ghost use Rattle.sh_lexer.specs.Trail.{line_of};
 ghost use Rattle.sh_machine.specs.Numbered.{Numbered, Within};
 ghost use Rattle.sh_script.specs.Longest.{longest};
 ghost use Rattle.sh_script.specs.Readings.{HaltOf, IsAdvance, IsMore, IsRead, Takes};
@@ -212,6 +213,13 @@ fn nesting(one_more: bool) -> u32
     if one_more { DEEPEST + 1 } else { DEEPEST }
 }
 
+/// The line of the token that was read last.
+fn last_line(lexer: &Lexer) -> usize
+    ensures { result ≡ line_of lexer.now lexer.now.last }
+{
+    lexer.line(lexer.place())
+}
+
 /// The line of a token of a text, and whether it is taken, by its number: or of the token at which the reading halts before
 /// that. So many things may be open at once as are allowed, or one more.
 pub fn look_at(
@@ -227,11 +235,11 @@ pub fn look_at(
     let mut left = number;
     'tokens: loop {
         let (lexer, next) = next_token(alloc, reader)?;
-        let line = lexer.line(lexer.place());
         match next {
             Advance::More(machine, mode, openings) => {
                 if left == 0 {
                     drop(machine);
+                    let line = last_line(&lexer);
                     return Ok((line, true));
                 }
                 left -= 1;
@@ -244,6 +252,7 @@ pub fn look_at(
             }
             Advance::Halts(halt) => {
                 drop(halt);
+                let line = last_line(&lexer);
                 return Ok((line, false));
             }
         }

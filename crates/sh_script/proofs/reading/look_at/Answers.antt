@@ -1,5 +1,4 @@
 use Rattle.std.proofs.Common.{◌≡◌, ℕ, suc, sym, ap, subst, refl, ◌∙◌, arith}
-use Rattle.sh_lexer.specs.declared.place.Place.{Place}
 use Rattle.sh_lexer.specs.Trail.{line_of}
 use Rattle.sh_machine.specs.Numbered.{Within}
 use Rattle.sh_script.specs.declared.reading.Reader.{Reader}
@@ -30,8 +29,8 @@ next_token-requires-clause-few c = stands-few (nesting c.args.one_more) c.args.t
 pub returns-then-left-eq0 : goal.returns-then-left-eq0
 returns-then-left-eq0 c =
     let n = c.in_ok-lexer in
-    looked-last c.tokens.left c.line-line.result c.tokens.reader n.lexer n.next c.in-More.machine c.in-More.mode c.in-More.openings (omega arith)
-    (c.line-line.ensures ∙ ap (λ (p : Place). line_of n.lexer p) c.place.ensures) n.ensures.lexer n.ensures.advance c.in-More.is ∙ c.tokens.invariant.same
+    looked-last c.tokens.left c.last_line-line.result c.tokens.reader n.lexer n.next c.in-More.machine c.in-More.mode c.in-More.openings (omega arith)
+    c.last_line-line.ensures n.ensures.lexer n.ensures.advance c.in-More.is ∙ c.tokens.invariant.same
 
 pub tokens-smaller : goal.tokens-smaller
 tokens-smaller c =
@@ -51,5 +50,5 @@ tokens-preserved c =
 pub returns-in-Halts : goal.returns-in-Halts
 returns-in-Halts c =
     let n = c.in_ok-lexer in
-    looked-halt c.tokens.left c.line-line.result c.tokens.reader n.lexer n.next c.in-Halts.halt
-    (c.line-line.ensures ∙ ap (λ (p : Place). line_of n.lexer p) c.place.ensures) n.ensures.lexer n.ensures.advance c.in-Halts.is ∙ c.tokens.invariant.same
+    looked-halt c.tokens.left c.last_line-line-in-Halts.result c.tokens.reader n.lexer n.next c.in-Halts.halt
+    c.last_line-line-in-Halts.ensures n.ensures.lexer n.ensures.advance c.in-Halts.is ∙ c.tokens.invariant.same
