@@ -2,7 +2,7 @@
 use Rattle.std.proofs.Common.{◌≡◌, ℕ, ◌≤◌, zero, suc, T, List, [], ◌∷◌, ◌++◌, Bool, true, false, not, ◌&&◌, refl, sym, ap, ◌∙◌, subst, length}
 use Rattle.std.specs.Prelude.{None, Some, Option, is_some, option_map, unwrap_or, if◌then◌else◌, ◌||◌}
 use Rattle.std.specs.FinMap.{get, keys}
-use Rattle.hs_world.specs.Files.{Files as Tree, entry_at, kind_of, bytes_of, is_dir, names_in, names_of}
+use Rattle.hs_world.specs.Files.{Files as Tree, IsTree, entry_at, kind_of, bytes_of, is_dir, names_in, names_of}
 use Rattle.hs_world.specs.Paths.{Path}
 use Rattle.hs_world.specs.Tables.{route_at, shown_end}
 use Rattle.hs_world.specs.World.{WorldData, At, all_tables}
@@ -20,7 +20,7 @@ use Rattle.hs_world.specs.declared.route.RouteTable.{RouteTable}
 use Rattle.hs_overlay.specs.Files.{under_files, FilesOver}
 use Rattle.hs_overlay.specs.Inputs.{input_of}
 use Rattle.hs_overlay.specs.Names.{NamesOver, changes_at, names_after}
-use Rattle.hs_overlay.specs.Over.{Over, IsTree}
+use Rattle.hs_overlay.specs.Over.{Over}
 use Rattle.hs_overlay.specs.Overlay.{OverlayData}
 use Rattle.hs_overlay.specs.Paths.{extended_by, shown_by}
 use Rattle.hs_overlay.specs.Routing.{RoutingData, base_end, hide, seen_over, joined, ends_over, routes_over, captured_over}

@@ -3,7 +3,7 @@ use Rattle.std.specs.Prelude.{◌≡◌, ◌≤◌, ℕ, Bool, true, false, List
 use Rattle.hs_world.specs.Reads.{ReadList, Passes}
 use Rattle.hs_world.specs.World.{WorldData, Applied}
 use Rattle.hs_world.specs.declared.effect.Effect.{Effect}
-pub use Rattle.hs_overlay.specs.Over.{IsTree}
+pub use Rattle.hs_world.specs.Files.{IsTree}
 use Rattle.hs_view.specs.Seen.{SeenData}
 
 -- What contracts see of a view over a base.

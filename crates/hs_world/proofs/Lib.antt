@@ -5,6 +5,7 @@ mod Examples
 pub mod Folders
 pub mod Indexes
 pub mod Frames
+pub mod InFolders
 pub mod Laws
 pub mod LocOrder
 pub mod Maps

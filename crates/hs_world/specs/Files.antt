@@ -87,6 +87,10 @@ names_in p (x ∷ xs) = put_some (name_in p x) (names_in p xs)
 abbrev pub names_of : Files → Path → Option (List (List ℕ))
 names_of t p = if is_dir (entry_at t p) then Some (names_in p (keys t)) else None
 
+-- Each entry of a tree is in a folder: what is no folder has no names.
+abbrev pub IsTree : Files → Type 0
+IsTree t = (p : Path) → is_dir (entry_at t p) ≡ false → names_in p (keys t) ≡ []
+
 abbrev pub is_empty_list : {A : Type 0} → List A → Bool
 is_empty_list [] = true
 is_empty_list (x ∷ xs) = false

@@ -3,7 +3,7 @@
 
 ghost use Rattle.std.specs.Prelude.{◌≡◌, ◌↔◌, ◌^◌, ◌+◌, ◌-◌, ◌≤◌, ◌<◌, ℕ, min, ltb, not, ◌&&◌, ◌||◌, cond, is_some, true, false, OnOk, OnErr, IfOk, IsTrue, Err, Some, None, option_copied};
 ghost use Rattle.std.specs.FinMap as map;
-ghost use Rattle.hs_world.specs.Files.{appended, bytes_of, entry_at, entry_size, extended, extended_at, is_absent, is_dir, is_empty_list, is_other, is_over, is_over_with, is_removable, kind_of, most_bytes, most_entries, names_in, size_in, sum_of, tree_bytes};
+ghost use Rattle.hs_world.specs.Files.{IsTree, appended, bytes_of, entry_at, entry_size, extended, extended_at, is_absent, is_dir, is_empty_list, is_other, is_over, is_over_with, is_removable, kind_of, most_bytes, most_entries, names_in, size_in, sum_of, tree_bytes};
 ghost use Rattle.hs_world.specs.Names.{path_cmp};
 ghost use Rattle.hs_world.specs.Paths.{parent};
 ghost use Rattle.hs_world.specs.Sizes.{capped, entries_size, kept_size, path_bytes, path_size};
@@ -35,7 +35,7 @@ const MOST_BYTES: u64 = 268_435_456;
 /// The most entries of a tree, without the root.
 const MOST_ENTRIES: usize = 262_144;
 
-/// Paths with their entries.
+/// Paths with their entries. Each entry is in a folder: what is no folder has no names. The root is a folder.
 #[derive(Drop)]
 pub struct Tree {
     alloc: Global,
@@ -47,7 +47,7 @@ pub struct Tree {
 impl Model for Tree {
     ghost use Rattle.std.specs.Prelude.{◌≡◌, ◌^◌, ◌-◌, min};
     ghost use Rattle.hs_world.specs.Names.{path_cmp};
-    ghost use Rattle.hs_world.specs.Files.{Files, files_code, tree_bytes};
+    ghost use Rattle.hs_world.specs.Files.{Files, IsTree, files_code, tree_bytes};
     ghost use Rattle.hs_world.specs.Folders.{IsIndex};
     ghost use Rattle.std.specs.FinMap as map;
 
@@ -57,7 +57,7 @@ impl Model for Tree {
 
     ghost view = { λ a. map.from_entries {R = path_cmp} a.entries.entries };
 
-    ghost invariant = { λ a. (a.bytes ≡ min (tree_bytes (map.from_entries {R = path_cmp} a.entries.entries)) (2 ^ 64 - 1)) × IsIndex a.folders (map.from_entries a.entries.entries) };
+    ghost invariant = { λ a. (a.bytes ≡ min (tree_bytes (map.from_entries {R = path_cmp} a.entries.entries)) (2 ^ 64 - 1)) × IsIndex a.folders (map.from_entries a.entries.entries) × IsTree (map.from_entries a.entries.entries) };
 }
 
 impl Tree {
@@ -71,6 +71,13 @@ impl Tree {
             folders: Folders::new(alloc),
             bytes: 0,
         }
+    }
+
+    /// Each entry is in a folder: what is no folder has no names.
+    pub fn promise(&self)
+        ensures { IsTree self.now }
+    {
+        let _ = &self.bytes;
     }
 
     /// The bytes of the files together, or 2^64 - 1 where they are more.
@@ -263,8 +270,11 @@ impl Tree {
         }
     }
 
-    /// Puts an entry at a path, in place of what is there. Where there is no memory, the tree stays.
-    pub fn set(&mut self, path: PathName, entry: Entry) -> Result<(), AllocError>
+    /// Puts an entry at a path in a folder, in place of what is there, which is no folder. Where there is no memory, the
+    /// tree stays.
+    pub(crate) fn set(&mut self, path: PathName, entry: Entry) -> Result<(), AllocError>
+        requires parent { is_dir (entry_at self.old (parent path)) ≡ true }
+        requires place { is_dir (entry_at self.old path) ≡ false }
         ensures ok { OnOk result (self.new ≡ map.insert self.old path entry) }
         ensures err { OnErr result (self.new ≡ self.old) }
     {
@@ -282,8 +292,9 @@ impl Tree {
         Ok(())
     }
 
-    /// Takes what is at a path away.
-    pub fn remove(&mut self, path: &PathName)
+    /// Takes away what is at a path: a file, or a folder without entries that is not the root.
+    pub(crate) fn remove(&mut self, path: &PathName)
+        requires { is_removable (entry_at self.old path.now) self.old path.now ≡ true }
         ensures { self.new ≡ map.remove self.old path.now }
     {
         let old = self.size_at(path.names());

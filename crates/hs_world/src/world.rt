@@ -2,7 +2,7 @@
 
 ghost use Rattle.std.specs.Prelude.{◌≡◌, ◌≢◌, ◌↔◌, ◌≤◌, ◌^◌, ◌+◌, ◌-◌, if◌then◌else◌, drop, reverse, length, leb, [], ◌∷◌, true, false, IsTrue, IfOk, OnOk, OnErr, Err, Some, None, option_copied, unwrap_or};
 ghost use Rattle.std.specs.FinMap as map;
-ghost use Rattle.hs_world.specs.Files.{is_over, names_of};
+ghost use Rattle.hs_world.specs.Files.{IsTree, is_over, names_of};
 ghost use Rattle.hs_world.specs.Names.{name_cmp};
 ghost use Rattle.hs_world.specs.Tables.{captured_in, emitted_below, fd_number, has_capture, opened, take_up, taker_in};
 ghost use Rattle.hs_world.specs.World.{all_tables, At, Apply, change, emitted_length, emitted_over, end_of, file_in, is_valid, length_of, length_with, made, new_world, passed, passes_tree, route_of, shell_of, stream_of};
@@ -157,6 +157,13 @@ impl World {
             limit: limits.bytes,
             count: 0,
         })
+    }
+
+    /// Each entry of the tree is in a folder: what is no folder has no names.
+    pub fn promise(&self)
+        ensures { IsTree self.now.tree }
+    {
+        self.tree.promise();
     }
 
     /// The status of the last command.
@@ -392,9 +399,10 @@ impl World {
         }
     }
 
-    /// Applies one effect. Refused, the world stays. An Append or an Emit to a file or a capture extends it in place where
-    /// no other text shares its bytes.
+    /// Applies one effect, which is valid. Refused, the world stays. An Append or an Emit to a file or a capture extends it
+    /// in place where no other text shares its bytes.
     pub fn apply(&mut self, effect: &Effect) -> Result<(), WorldErr>
+        requires { is_valid effect.now self.old ≡ true }
         ensures ok { OnOk result (self.new ≡ Apply effect.now self.old) }
         ensures fits { OnOk result (passed effect.now self.old ≡ None) }
         ensures err { OnErr result (self.new ≡ self.old) }
@@ -412,7 +420,8 @@ impl World {
     }
 
     fn change(&mut self, effect: &Effect) -> Result<(), AllocError>
-        requires { passed effect.now self.old ≡ None }
+        requires valid { is_valid effect.now self.old ≡ true }
+        requires fits { passed effect.now self.old ≡ None }
         ensures ok { OnOk result (self.new ≡ change effect.now self.old) }
         ensures err { OnErr result (self.new ≡ self.old) }
     {
@@ -446,7 +455,8 @@ impl World {
     }
 
     fn put(&mut self, path: &PathName, text: &Text) -> Result<(), AllocError>
-        requires { passes_tree (effect.Put path.now text.now) self.old ≡ false }
+        requires valid { is_valid (effect.Put path.now text.now) self.old ≡ true }
+        requires fits { passes_tree (effect.Put path.now text.now) self.old ≡ false }
         ensures ok { OnOk result (self.new ≡ change (effect.Put path.now text.now) self.old) }
         ensures err { OnErr result (self.new ≡ self.old) }
     {
@@ -464,7 +474,8 @@ impl World {
     }
 
     fn make_dir(&mut self, path: &PathName) -> Result<(), AllocError>
-        requires { passes_tree (effect.MakeDir path.now) self.old ≡ false }
+        requires valid { is_valid (effect.MakeDir path.now) self.old ≡ true }
+        requires fits { passes_tree (effect.MakeDir path.now) self.old ≡ false }
         ensures ok { OnOk result (self.new ≡ change (effect.MakeDir path.now) self.old) }
         ensures err { OnErr result (self.new ≡ self.old) }
     {
@@ -473,6 +484,7 @@ impl World {
     }
 
     fn remove(&mut self, path: &PathName)
+        requires { is_valid (effect.Remove path.now) self.old ≡ true }
         ensures { self.new ≡ change (effect.Remove path.now) self.old }
     {
         self.tree.remove(path);
