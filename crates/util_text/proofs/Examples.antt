@@ -1,12 +1,29 @@
 -- Texts, and what the utilities make of them.
-use Rattle.std.proofs.Common.{◌≡◌, ℕ, List, [], ◌∷◌, None, Some, refl, codes}
+use Rattle.std.proofs.Common.{◌≡◌, ℕ, Bool, true, false, List, [], ◌∷◌, ◌++◌, None, Some, Ok, Err, refl, codes}
+use Rattle.std.specs.Prelude.{decimal}
+use Rattle.std.specs.List.{join_with_byte}
+use Rattle.hs_world.specs.World.{WorldData}
+use Rattle.hs_world.specs.declared.effect.Effect.{Effect}
+use Rattle.hs_world.specs.declared.effect.Effect.TheVariants.{Append, Emit, Put, SetInput}
+use Rattle.hs_world.specs.declared.effect.Fd.TheVariants.{One}
+use Rattle.hs_world.specs.Paths.{Path}
+use Rattle.hs_world.specs.declared.entry.Kind.TheVariants as kind
+use Rattle.util_common.specs.Operands.{progress_of}
+use Rattle.util_common.specs.declared.messages.Why.TheVariants.{BadList, Excluding, IsFolder, MissingOperand, NoSuchFolder}
 use Rattle.util_text.specs.declared.counting.Counts.{Counts}
 use Rattle.util_text.specs.declared.ends.Ends.TheVariants.{Last, From}
 use Rattle.util_text.specs.Count.{number}
-use Rattle.util_text.specs.Counting.{counts}
+use Rattle.util_text.specs.Counting.{counts, total}
 use Rattle.util_text.specs.Fold.{fold}
 use Rattle.util_text.specs.Lines.{lines, pieces, first_lines, last_lines, lines_from}
+use Rattle.util_text.specs.Cut.{cut_fields}
+use Rattle.util_text.specs.Places.{list_of, selects}
+use Rattle.util_text.specs.Slicing.{wanted}
+use Rattle.util_text.specs.declared.slicing.Items.TheVariants.{Bytes, Fields}
 use Rattle.util_text.specs.Tail.{ends_of}
+use Rattle.util_text.specs.Teeing.{input_copied, written_at}
+use Rattle.util_text.specs.Tallying.{tallies, total_written}
+use Rattle.util_text.specs.declared.chosen.Chosen.{Chosen}
 
 -- a last piece without a newline is a line
 last_piece : lines (codes "a\n\nb") ≡ codes "a" ∷ [] ∷ codes "b" ∷ []
@@ -58,3 +75,82 @@ cut = refl
 
 empty_line : fold 2 (codes "\n") ≡ codes "\n"
 empty_line = refl
+
+-- ---- wc
+
+abbrev lines_only : Chosen
+lines_only = record { lines = true; words = false; bytes = false }
+
+abbrev none_chosen : Chosen
+none_chosen = record { lines = false; words = false; bytes = false }
+
+named_line : tallies none_chosen true [] (codes "f") (codes "a b\nc") ≡ join_with_byte 32 (decimal 1 ∷ decimal 3 ∷ decimal 5 ∷ []) ++ codes " f\n"
+named_line = refl
+
+-- standard input that no operand names
+plain_line : tallies lines_only false [] (codes "-") (codes "a b\n") ≡ decimal 1 ++ codes "\n"
+plain_line = refl
+
+summed : total (codes "a b\n" ∷ codes "c" ∷ []) ≡ record { lines = 1; words = 3; bytes = 5 }
+summed = refl
+
+-- the sum is written behind the lines of the operands, and the status stays
+total_line : (w : WorldData) → total_written lines_only true (progress_of (codes "a\n" ∷ codes "b\nc\n" ∷ []) 1) w ≡ record { effects = Emit One (decimal 3 ++ codes " total\n") ∷ []; answer = 1 }
+total_line w = refl
+
+single_line : (w : WorldData) → total_written lines_only false (progress_of (codes "a\n" ∷ []) 0) w ≡ record { effects = []; answer = 0 }
+single_line w = refl
+
+-- ---- cut
+
+list_order : list_of (codes "3,1-2") ≡ Some (record { low = 3; high = Some 3 } ∷ record { low = 1; high = Some 2 } ∷ [])
+list_order = refl
+
+-- the fields come in the order of the line
+line_order : cut_fields (λ place. selects (record { low = 3; high = Some 3 } ∷ record { low = 1; high = Some 1 } ∷ []) place) 58 false (codes "a:b:c\nd") ≡ codes "a:c\nd\n"
+line_order = refl
+
+-- a line without delimiter does not pass
+only_fields : cut_fields (λ place. selects (record { low = 2; high = None } ∷ []) place) 58 true (codes "a:b:c\nd") ≡ codes "b:c\n"
+only_fields = refl
+
+by_tabs : wanted ((102, Some (codes "2")) ∷ (115, None) ∷ []) ≡ Ok (Fields 9 true, record { low = 2; high = Some 2 } ∷ [])
+by_tabs = refl
+
+-- the last value of an option counts
+last_list : wanted ((98, Some (codes "1")) ∷ (98, Some (codes "2-")) ∷ []) ≡ Ok (Bytes, record { low = 2; high = None } ∷ [])
+last_list = refl
+
+two_lists : wanted ((98, Some (codes "1")) ∷ (102, Some (codes "2")) ∷ []) ≡ Err Excluding
+two_lists = refl
+
+bytes_with_delimiter : wanted ((98, Some (codes "0")) ∷ (100, Some (codes ":")) ∷ []) ≡ Err Excluding
+bytes_with_delimiter = refl
+
+no_list : wanted ((100, Some (codes ":")) ∷ []) ≡ Err MissingOperand
+no_list = refl
+
+long_delimiter : wanted ((102, Some (codes "1")) ∷ (100, Some (codes "ab")) ∷ []) ≡ Err BadList
+long_delimiter = refl
+
+-- ---- tee
+
+-- standard input is used up, and written before any file
+input_first : (w : WorldData) → input_copied false [] w ≡ record { effects = SetInput [] ∷ Emit One w.input ∷ []; answer = 0 }
+input_first w = refl
+
+anew : (path : Path) (text : List ℕ) → written_at false kind.File true path text ≡ Ok (Put path text)
+anew path text = refl
+
+behind : (path : Path) (text : List ℕ) → written_at true kind.File true path text ≡ Ok (Append path text)
+behind path text = refl
+
+-- with `-a` too a file is made where there is none
+made : (path : Path) (text : List ℕ) → written_at true kind.Absent true path text ≡ Ok (Put path text)
+made path text = refl
+
+nowhere : (path : Path) (text : List ℕ) → written_at false kind.Absent false path text ≡ Err NoSuchFolder
+nowhere path text = refl
+
+onto_folder : (path : Path) (text : List ℕ) → written_at true kind.Dir true path text ≡ Err IsFolder
+onto_folder path text = refl

@@ -2,6 +2,7 @@ pub mod Buffers
 pub mod Pieces
 pub mod Copied
 pub mod Signs
+pub mod Sliced
 pub mod Lined
 pub mod Words
 pub mod Folds
@@ -13,3 +14,10 @@ pub mod Ranges
 pub mod Trims
 pub mod Picked
 pub mod Exits
+pub mod Headed
+pub mod Tailed
+pub mod Tallied
+pub mod Teed
+pub mod Totals
+pub mod Walked
+pub mod Wrapped

@@ -3,7 +3,7 @@ use Rattle.std.proofs.Common.{◌≡◌, ℕ, Bool, true, false, List, [], ◌�
 use Rattle.std.specs.Prelude.{◌||◌, decimal}
 use Rattle.std.specs.List.{join_with_byte}
 use Rattle.util_text.specs.declared.counting.Counts.{Counts}
-use Rattle.util_text.specs.declared.wc.Chosen.{Chosen}
+use Rattle.util_text.specs.declared.chosen.Chosen.{Chosen}
 use Rattle.util_text.specs.Wc.{where_chosen, shown, written}
 
 joined : (l w b : Bool) (nl nw nb : ℕ) →

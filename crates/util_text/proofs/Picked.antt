@@ -41,7 +41,7 @@ chosen-all test place (x ∷ xs) all =
 or-left : (a b : Bool) → a ≡ true → (a || b) ≡ true
 or-left a b is = ap (λ (c : Bool). c || b) is
 
-in-first : (s : Span) (more : List Span) (k : ℕ) → s.low ≤ k → k ≤ s.high → in_spans (s ∷ more) k ≡ true
+pub in-first : (s : Span) (more : List Span) (k : ℕ) → s.low ≤ k → k ≤ s.high → in_spans (s ∷ more) k ≡ true
 in-first s more k l h =
     or-left (in_span s k) (in_spans more k) (ap (λ (c : Bool). c && nat_le k s.high) (le-leb s.low k l) ∙ le-leb k s.high h)
 
@@ -49,12 +49,12 @@ and-false : (a : Bool) → (a && false) ≡ false
 and-false true = refl
 and-false false = refl
 
-behind-first : (s : Span) (more : List Span) (k : ℕ) → s.high < k → in_spans (s ∷ more) k ≡ in_spans more k
+pub behind-first : (s : Span) (more : List Span) (k : ℕ) → s.high < k → in_spans (s ∷ more) k ≡ in_spans more k
 behind-first s more k h =
     ap (λ (c : Bool). (nat_le s.low k && c) || in_spans more k) (lt-leb k s.high h)
     ∙ ap (λ (c : Bool). c || in_spans more k) (and-false (nat_le s.low k))
 
-before-first : (s : Span) (more : List Span) (k : ℕ) → k < s.low → s.low ≤ s.high → is_apart s.high more ≡ true → in_spans (s ∷ more) k ≡ false
+pub before-first : (s : Span) (more : List Span) (k : ℕ) → k < s.low → s.low ≤ s.high → is_apart s.high more ≡ true → in_spans (s ∷ more) k ≡ false
 before-first s more k h rises apart =
     ap (λ (c : Bool). (c && nat_le k s.high) || in_spans more k) (lt-leb s.low k h) ∙ apart-none s.high more k apart (omega arith)
 

@@ -134,20 +134,20 @@ ascend-from_sorted least (s ∷ more) above sorted = (
 
 -- ---- counts that stand for numbers
 
-leb-min : (m place : ℕ) → place < 2 ^ 63 → nat_le (min m (2 ^ 64 - 1)) place ≡ nat_le m place
+leb-min : (m place : ℕ) → place ≤ 2 ^ 63 → nat_le (min m (2 ^ 64 - 1)) place ≡ nat_le m place
 leb-min m place h = elim (cases_lt place m) [
   | inl g ↦ lt-leb (min m (2 ^ 64 - 1)) place (omega arith) ∙ sym (lt-leb m place g)
   | inr g ↦ le-leb (min m (2 ^ 64 - 1)) place (omega arith) ∙ sym (le-leb m place g)
 ]
 
-end-min : (high : Option ℕ) (place : ℕ) → place < 2 ^ 63 → nat_le place (end_of high) ≡ up_to high place
+end-min : (high : Option ℕ) (place : ℕ) → place ≤ 2 ^ 63 → nat_le place (end_of high) ≡ up_to high place
 end-min None place h = le-leb place (2 ^ 64 - 1) (omega arith)
 end-min (Some n) place h = elim (cases_lt n place) [
   | inl g ↦ lt-leb place (min n (2 ^ 64 - 1)) (omega arith) ∙ sym (lt-leb place n g)
   | inr g ↦ le-leb place (min n (2 ^ 64 - 1)) (omega arith) ∙ sym (le-leb place n g)
 ]
 
-pub spans-select : (ranges : List Range) (place : ℕ) → place < 2 ^ 63 → in_spans (map (λ r. span_of r) ranges) place ≡ selects ranges place
+pub spans-select : (ranges : List Range) (place : ℕ) → place ≤ 2 ^ 63 → in_spans (map (λ r. span_of r) ranges) place ≡ selects ranges place
 spans-select [] place h = refl
 spans-select (r ∷ more) place h =
     ap (λ (c : Bool). (c && nat_le place (end_of r.high)) || in_spans (map (λ r. span_of r) more) place) (leb-min r.low place h)

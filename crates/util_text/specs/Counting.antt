@@ -1,5 +1,6 @@
 -- The counts of `wc` (POSIX.1-2017, XCU, `wc`). A word is a run of bytes other than space and 9 to 13.
-use Rattle.std.specs.Prelude.{ℕ, ◌+◌, Bool, true, not, ◌&&◌, ◌||◌, ◌==◌, nat_le, List, [], ◌∷◌, length, if◌then◌else◌}
+use Rattle.std.specs.Prelude.{ℕ, ◌+◌, ◌-◌, ◌^◌, min, Bool, true, not, ◌&&◌, ◌||◌, ◌==◌, nat_le, List, [], ◌∷◌, length, if◌then◌else◌}
+use Rattle.std.specs.List.{sum_by}
 use Rattle.util_text.specs.declared.counting.Counts.{Counts}
 
 abbrev pub newline : ℕ → ℕ
@@ -25,3 +26,16 @@ words (b ∷ bs) = (if not (is_space b) && ends_word bs then 1 else 0) + words b
 
 abbrev pub counts : List ℕ → Counts
 counts text = record { lines = newlines text; words = words text; bytes = length text }
+
+-- ---- several texts
+
+-- the sum of each count over the texts
+abbrev pub total : List (List ℕ) → Counts
+total texts = record { lines = sum_by newlines texts; words = sum_by words texts; bytes = sum_by length texts }
+
+abbrev pub plus : Counts → Counts → Counts
+plus a b = record { lines = a.lines + b.lines; words = a.words + b.words; bytes = a.bytes + b.bytes }
+
+-- each count, or the greatest one of 128 bits where it is greater
+abbrev pub capped : Counts → Counts
+capped counts = record { lines = min counts.lines (2 ^ 128 - 1); words = min counts.words (2 ^ 128 - 1); bytes = min counts.bytes (2 ^ 128 - 1) }

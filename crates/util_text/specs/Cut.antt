@@ -30,3 +30,9 @@ fields_of_line test d only line =
 
 abbrev pub cut_fields : (ℕ → Bool) → ℕ → Bool → List ℕ → List ℕ
 cut_fields test d only text = flat_map (λ line. fields_of_line test d only line) (lines text)
+
+-- ---- field by field
+
+-- a field where it is selected, with the delimiter before it where it comes behind another
+abbrev pub field_shown : ℕ → Bool → Bool → List ℕ → List ℕ
+field_shown d selected behind field = if selected then (if behind then d ∷ field else field) else []

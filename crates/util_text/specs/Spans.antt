@@ -1,5 +1,5 @@
 -- Ranges of places as counts: the greatest count is no end, since no line has so many bytes.
-use Rattle.std.specs.Prelude.{ℕ, ◌-◌, ◌^◌, ◌≤◌, min, Bool, true, ◌&&◌, nat_le, nat_lt, List, [], ◌∷◌, Option, None, Some}
+use Rattle.std.specs.Prelude.{◌≡◌, ℕ, ◌-◌, ◌^◌, ◌≤◌, min, Bool, true, ◌&&◌, nat_le, nat_lt, List, [], ◌∷◌, Option, None, Some}
 use Rattle.std.specs.List.{list_any}
 use Rattle.util_text.specs.declared.places.Span.{Span}
 use Rattle.util_text.specs.Places.{Range}
@@ -26,3 +26,8 @@ is_apart behind (s ∷ more) = nat_lt behind s.low && (nat_le s.low s.high && is
 abbrev pub Ascend : ℕ → List Span → Type 0
 Ascend least [] = Unit {0}
 Ascend least (s ∷ more) = (least ≤ s.low) × Ascend s.low more
+
+-- in order, each behind the one before it, and none ends before this place
+abbrev pub Reach : ℕ → List Span → Type 0
+Reach place [] = Unit {0}
+Reach place (s ∷ more) = (place ≤ s.high) × (s.low ≤ s.high) × (is_apart s.high more ≡ true)

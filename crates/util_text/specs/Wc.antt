@@ -2,7 +2,7 @@
 use Rattle.std.specs.Prelude.{ℕ, Bool, true, false, not, ◌||◌, List, [], ◌∷◌, ◌++◌, Option, None, Some, decimal, if◌then◌else◌}
 use Rattle.std.specs.List.{join_with_byte}
 use Rattle.util_text.specs.declared.counting.Counts.{Counts}
-use Rattle.util_text.specs.declared.wc.Chosen.{Chosen}
+use Rattle.util_text.specs.declared.chosen.Chosen.{Chosen}
 
 abbrev pub where_chosen : Bool → ℕ → List (List ℕ)
 where_chosen chosen n = if chosen then decimal n ∷ [] else []

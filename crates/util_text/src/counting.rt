@@ -11,6 +11,17 @@ pub struct Counts {
     pub bytes: u128,
 }
 
+/// Both together. A count past the greatest one is that.
+pub fn sum(a: &Counts, b: &Counts) -> Counts
+    ensures { result ≡ spec.capped (spec.plus a.now b.now) }
+{
+    Counts {
+        lines: a.lines.saturating_add(b.lines),
+        words: a.words.saturating_add(b.words),
+        bytes: a.bytes.saturating_add(b.bytes),
+    }
+}
+
 /// 1 for a newline, else 0.
 fn newline(byte: u8) -> usize
     ensures { result ≡ spec.newline byte }

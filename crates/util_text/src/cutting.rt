@@ -1,6 +1,6 @@
-//! `cut`: the bytes or the fields of lines that a list selects (POSIX.1-2017, XCU, `cut`; each byte is one character).
+//! `cut`: the bytes of lines that a list selects (POSIX.1-2017, XCU, `cut`; each byte is one character).
 
-ghost use Rattle.std.specs.Prelude.{◌≡◌, ◌<◌, ◌^◌, ◌++◌, ℕ, List, Bool, true, OnOk, OnErr};
+ghost use Rattle.std.specs.Prelude.{◌≡◌, ◌<◌, ◌≤◌, ◌^◌, ◌++◌, ℕ, List, Bool, true, OnOk, OnErr};
 ghost use Rattle.util_text.specs.Buffer.{Keeps};
 ghost use Rattle.util_text.specs.Cut as spec;
 ghost use Rattle.util_text.specs.Places.{Range, selects};
@@ -15,7 +15,7 @@ use std::alloc::AllocError;
 #[tactic(auto, using(crate::proofs::Buffers::keeps_self, crate::proofs::Buffers::keeps_more, crate::proofs::Buffers::keeps_then))]
 fn write_bytes(out: &mut Vec<u8>, line: &[u8], spans: &[Span]) -> Result<(), AllocError>
     requires { is_apart 0 spans.now ≡ true }
-    ensures ok { OnOk result ((test : ℕ → Bool) → ((place : ℕ) → 0 < place → place < 2 ^ 63 → test place ≡ in_spans spans.now place) → out.new.items ≡ out.old.items ++ spec.chosen test 1 line.now) }
+    ensures ok { OnOk result ((test : ℕ → Bool) → ((place : ℕ) → 0 < place → place ≤ 2 ^ 63 → test place ≡ in_spans spans.now place) → out.new.items ≡ out.old.items ++ spec.chosen test 1 line.now) }
     ensures err { OnErr result (Keeps out.old.items out.new.items) }
 {
     let mut left = spans;

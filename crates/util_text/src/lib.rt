@@ -1,28 +1,46 @@
-//! What `head`, `tail`, `wc`, `cut`, `paste` and `fold` make of bytes (POSIX.1-2017, XCU 4): their definitions stand in specs/.
+//! Text utilities (POSIX.1-2017, XCU 4): `cat`, `head`, `tail` and `fold`, and what `wc`, `cut` and `paste` make of bytes. Their
+//! definitions stand in specs/.
 #![tactic(auto)]
 
 mod buffer;
+mod catenating;
+mod chosen;
+mod counted;
 mod counting;
 mod cutting;
 mod ends;
 mod fault;
+mod fielding;
 mod folding;
+mod heading;
 mod line;
 mod list;
 mod number;
 mod part;
 mod places;
-mod wc;
+mod slicing;
+mod tailing;
+mod tallying;
+mod teeing;
+mod width;
+mod wrapping;
 
+pub use catenating::cat;
+pub use chosen::{Chosen, write_counts};
 pub use counting::{Counts, count};
 pub use cutting::cut_bytes;
-pub use ends::{Ends, first_lines, last_lines, lines_from, read_ends, tail};
+pub use ends::{Ends, first_lines, last_lines, lines_from, read_ends};
 pub use fault::TextErr;
-pub use folding::fold;
+pub use fielding::cut_fields;
+pub use heading::head;
 pub use list::read_list;
 pub use number::read_count;
 pub use places::{Selection, Span};
-pub use wc::{Chosen, write_counts};
+pub use slicing::cut;
+pub use tailing::tail;
+pub use tallying::wc;
+pub use teeing::tee;
+pub use wrapping::fold;
 
 #[cfg(test)]
 mod tests;

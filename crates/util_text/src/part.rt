@@ -19,6 +19,13 @@ pub fn split_field(delimiter: u8, line: &[u8]) -> (&[u8], Option<&[u8]>)
     }
 }
 
+/// Whether a line has the delimiter.
+pub fn has_field(delimiter: u8, line: &[u8]) -> bool
+    ensures { result ≡ list_any (λ b. b == delimiter) line.now }
+{
+    split_field(delimiter, line).1.is_some()
+}
+
 /// The first item of a list, and what stands behind the comma or blank that ends it, where one is there.
 pub fn split_item(list: &[u8]) -> (&[u8], Option<&[u8]>)
     ensures item { parts (λ b. is_separator b) list.now ≡ result.0.now ∷ parts_behind (λ b. is_separator b) (option_copied result.1) }

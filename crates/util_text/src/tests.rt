@@ -1,6 +1,9 @@
+use crate::counting::sum;
+use crate::ends::tail;
+use crate::folding::fold;
 use crate::{
-    Chosen, Counts, TextErr, count, cut_bytes, first_lines, fold, last_lines, read_count,
-    read_ends, read_list, tail, write_counts,
+    Chosen, Counts, TextErr, count, cut_bytes, cut_fields, first_lines, last_lines, read_count,
+    read_ends, read_list, write_counts,
 };
 use std::alloc::{AllocError, Global};
 use std::test::Fail;
@@ -230,6 +233,54 @@ fn bad_lists_are_refused(rt: HostRuntime) -> Result<(), Fail> {
             Err(TextErr::BadList)
         );
         assert!(rt; bad, "{list:?}");
+    }
+    Ok(())
+}
+
+/// Two counts, and their sum.
+const SUMS: [(u128, u128, u128); 4] = [
+    (0, 0, 0),
+    (1, 2, 3),
+    (18_446_744_073_709_551_615, 1, 18_446_744_073_709_551_616),
+    (u128::MAX, 1, u128::MAX),
+];
+
+fn counts_of(n: u128) -> Counts {
+    Counts {
+        lines: n,
+        words: n,
+        bytes: n,
+    }
+}
+
+#[test]
+fn counts_are_summed(rt: HostRuntime) -> Result<(), Fail> {
+    for (a, b, wanted) in &SUMS {
+        let both = sum(&counts_of(*a), &counts_of(*b));
+        assert_eq!(rt; both, counts_of(*wanted), "{a} and {b}");
+    }
+    Ok(())
+}
+
+/// A list, whether only lines with the delimiter `:` are wanted, a text, and the fields that it selects.
+const FIELDS: [(&str, bool, &str, &str); 8] = [
+    ("2", false, "a:b:c\n", "b\n"),
+    ("3,1", false, "a:b:c\n", "a:c\n"),
+    ("2-", false, "a:b:c", "b:c\n"),
+    ("-2,4", false, "a::c\n", "a:\n"),
+    ("5", false, "a:b\n", "\n"),
+    ("2", false, "ab\nc:d\n", "ab\nd\n"),
+    ("2", true, "ab\nc:d\n\n", "d\n"),
+    ("1,3", false, ":::\n:\n", ":\n\n"),
+];
+
+#[test]
+fn lists_select_fields(rt: HostRuntime) -> Result<(), Fail> {
+    for (list, only, text, wanted) in &FIELDS {
+        let selection = read_list(rt.alloc(), list.as_bytes())?;
+        let mut out = Vec::new(rt.alloc());
+        cut_fields(&mut out, text.as_bytes(), &selection, b':', *only)?;
+        assert_eq!(rt; out.as_slice(), wanted.as_bytes(), "{list} of {text:?}");
     }
     Ok(())
 }

@@ -1,0 +1,29 @@
+use Rattle.std.proofs.Common.{List, ℕ, ap, ◌∙◌}
+use Rattle.std.specs.Prelude.{Option}
+use Rattle.hs_world.specs.Files.{bytes_of, entry_at}
+use Rattle.hs_world.specs.World.{WorldData}
+use Rattle.hs_view.specs.Steps.{nothing}
+use Rattle.hs_view.proofs.Acting.{acts_on, acts_read, acts_unread}
+use Rattle.util_common.specs.Operands.{bytes_content}
+use Rattle.util_common.specs.declared.content.Content.TheVariants.{Bytes, Refused}
+use Rattle.util_common.specs.declared.messages.Why.TheVariants.{NoSuchFile}
+use Rattle.util_common.proofs.content.bytes_at.Goals as goal
+
+pub returns-in_err-bytes : goal.returns-in_err-bytes
+returns-in_err-bytes g c =
+    let e = c.in_err-bytes.ensures in
+    let m = λ (w : WorldData). nothing (bytes_content (bytes_of (entry_at w.tree c.args.path.now))) w in
+    acts_on g.B.Base.seen m c.args.view.now c.bytes.new.self c.in_err-bytes.field-0.0 _ c.from_residual.ensures.0 c.from_residual.ensures.1
+    (acts_unread g.B.Base.seen m c.args.view.now c.bytes.new.self c.in_err-bytes.field-0.0 (record { effects = e.effects; keeps = e.keeps; fault = e.fault; trace = e.trace; through = e.through; spent = e.spent; outside = e.outside }) e.world)
+
+pub returns-in-Some : goal.returns-in-Some
+returns-in-Some g c =
+    let e = c.in_ok-bytes.ensures in
+    acts_read g.B.Base.seen (λ (w : WorldData). nothing (bytes_content (bytes_of (entry_at w.tree c.args.path.now))) w) c.args.view.now c.bytes.new.self _ (Bytes c.in-Some.bytes) (record { effects = e.effects; keeps = e.keeps; fault = e.fault; trace = e.trace; through = e.through; spent = e.spent; outside = e.outside })
+    (λ u s. ap (λ (o : Option (List ℕ)). nothing (bytes_content o) u) (e.answer u s ∙ c.in-Some.is))
+
+pub returns-in-None : goal.returns-in-None
+returns-in-None g c =
+    let e = c.in_ok-bytes.ensures in
+    acts_read g.B.Base.seen (λ (w : WorldData). nothing (bytes_content (bytes_of (entry_at w.tree c.args.path.now))) w) c.args.view.now c.bytes.new.self _ (Refused NoSuchFile) (record { effects = e.effects; keeps = e.keeps; fault = e.fault; trace = e.trace; through = e.through; spent = e.spent; outside = e.outside })
+    (λ u s. ap (λ (o : Option (List ℕ)). nothing (bytes_content o) u) (e.answer u s ∙ c.in-None.is))
