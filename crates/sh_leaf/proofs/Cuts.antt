@@ -3,7 +3,7 @@ use Rattle.std.proofs.Common.{◌≡◌, List, [], ◌∷◌, ◌++◌, Option, 
 use Rattle.hs_world.specs.declared.effect.Effect.{Effect}
 use Rattle.hs_world.specs.declared.world.Limit.{Limit}
 use Rattle.hs_world.specs.World.{WorldData, Apply, Applied, passed}
-use Rattle.sh_leaf.specs.Run.{misfit, fitting}
+use Rattle.sh_leaf.specs.Cut.{misfit, fitting}
 
 abbrev pick : {A : Type 0} → Option Limit → A → (Limit → A) → A
 pick o none some = elim o [ None ↦ none | Some limit ↦ some limit ]

@@ -1,4 +1,6 @@
 pub mod Adds
 pub mod Cuts
-mod Examples
+pub mod Examples
+pub mod Heads
+pub mod Leaves
 pub mod Valid

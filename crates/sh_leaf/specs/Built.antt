@@ -1,4 +1,4 @@
--- Which scripts are built: commands `echo` one after another, whose words need no expansion.
+-- Which scripts are built: commands `echo` and `cat` one after another, whose words need no expansion.
 use Rattle.std.specs.Prelude.{ℕ, Bool, true, false, not, ◌&&◌, ◌||◌, List, [], ◌∷◌, nat_eq, codes}
 use Rattle.std.specs.List.{list_all, list_any}
 use Rattle.std.specs.Cmp.Lexicographic.{pointwise}
@@ -35,22 +35,22 @@ is_built_part p = elim (out-Part p) [ open_part.Double parts ↦ list_all is_inn
 abbrev pub is_built_word : Word → Bool
 is_built_word word = list_all is_built_part word.parts
 
-abbrev pub is_echo_part : Part → Bool
-is_echo_part (Plain bytes) = pointwise nat_eq bytes (codes "echo")
-is_echo_part _ = false
+abbrev pub is_known_part : Part → Bool
+is_known_part (Plain bytes) = pointwise nat_eq bytes (codes "echo") || pointwise nat_eq bytes (codes "cat")
+is_known_part _ = false
 
-abbrev pub is_echo_name : List Part → Bool
-is_echo_name [] = false
-is_echo_name (p ∷ []) = is_echo_part p
-is_echo_name (_ ∷ _ ∷ _) = false
+abbrev pub is_known_name : List Part → Bool
+is_known_name [] = false
+is_known_name (p ∷ []) = is_known_part p
+is_known_name (_ ∷ _ ∷ _) = false
 
--- The first word is written `echo`.
-abbrev pub is_echo : List Word → Bool
-is_echo [] = false
-is_echo (name ∷ args) = is_echo_name name.parts
+-- The first word is written `echo` or `cat`.
+abbrev pub is_known : List Word → Bool
+is_known [] = false
+is_known (name ∷ args) = is_known_name name.parts
 
 abbrev pub is_built_command : Command → Bool
-is_built_command (Simple assigns words redirs) = is_none assigns && list_all is_built_word words && is_echo words && is_none redirs
+is_built_command (Simple assigns words redirs) = is_none assigns && list_all is_built_word words && is_known words && is_none redirs
 is_built_command _ = false
 
 -- one command, without `!`

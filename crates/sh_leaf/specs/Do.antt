@@ -1,30 +1,17 @@
--- What one leaf does in a world: its effects, the turns that it took, and what it came to.
-use Rattle.std.specs.Prelude.{ℕ, zero, suc, List, [], slice_get}
-use Rattle.hs_world.specs.declared.effect.Effect.{Effect}
-use Rattle.hs_world.specs.World.{WorldData}
+-- What one leaf does.
+use Rattle.std.specs.Prelude.{ℕ, slice_get}
 use Rattle.sh_syntax.specs.declared.tree.Script.{Script}
-use Rattle.sh_leaf.specs.declared.spent.SpentKind.{SpentKind}
-use Rattle.sh_leaf.specs.declared.spent.SpentKind.TheVariants.{Turns}
-use Rattle.sh_leaf.specs.Leaf.{leaf_effects}
+use Rattle.sh_leaf.specs.Command.{leaf_done}
+use Rattle.sh_leaf.specs.State.{State, Got, did, with_turn}
+use Rattle.sh_leaf.specs.declared.outcome.Outcome.{Outcome}
 
--- how a command ends
-pub data Way : Type 0 where
-  Status : ℕ → Way
+-- the most that may be begun in one another: compound commands and calls, and nested runs
+abbrev pub most_frames : ℕ
+most_frames = 2000
 
--- what stops a run before its end
-pub data Stop : Type 0 where
-  Ran_out : SpentKind → Stop
+abbrev pub most_nested : ℕ
+most_nested = 64
 
-pub data Came : Type 0 where
-  Gives : Way → Came
-  Stops : Stop → Came
-
-pub record Did : Type 0 where
-  pub effects : List Effect
-  pub turns : ℕ
-  pub came : Came
-
--- A simple command takes a turn first, and then does what its words say.
-abbrev pub Do : Script → ℕ → WorldData → ℕ → Did
-Do script k w zero = record { effects = []; turns = 0; came = Stops (Ran_out Turns) }
-Do script k w (suc turns) = record { effects = leaf_effects (slice_get script.leaves k); turns = 1; came = Gives (Status 0) }
+-- Leaf k of the script, with so many nested runs and frames left. It takes a turn, and then does what its words say.
+abbrev pub Do : Script → (nested frames k : ℕ) → State → Got Outcome
+Do script nested frames k σ = with_turn σ.turns (λ τ. did (leaf_done (slice_get script.leaves k) τ.world) τ) σ

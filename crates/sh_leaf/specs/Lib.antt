@@ -1,4 +1,10 @@
 pub mod Built
+pub mod Command
+pub mod Cut
 pub mod Do
-pub mod Leaf
+pub mod Fields
+pub mod Halting
+pub mod Head
+pub mod Record
 pub mod Run
+pub mod State

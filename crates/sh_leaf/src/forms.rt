@@ -2,7 +2,7 @@
 
 ghost use Rattle.std.specs.Prelude.{◌≡◌};
 ghost use Rattle.std.specs.List.{list_all, list_any};
-ghost use Rattle.sh_leaf.specs.Built.{is_alone, is_built, is_built_command, is_built_part, is_built_pipeline, is_built_word, is_echo, is_echo_name, is_echo_part, is_inner, is_sequence, is_special, is_unjoined};
+ghost use Rattle.sh_leaf.specs.Built.{is_alone, is_built, is_built_command, is_built_part, is_built_pipeline, is_built_word, is_inner, is_known, is_known_name, is_known_part, is_sequence, is_special, is_unjoined};
 
 use sh_syntax::{AndOr, Command, List, Part, Pipeline, Script, Word};
 
@@ -55,29 +55,32 @@ fn are_built_words(words: &[Word]) -> bool
     words.iter().all(|word| is_built_word(word))
 }
 
-fn is_echo_part(part: &Part) -> bool
-    ensures { result ≡ is_echo_part part.now }
+/// Whether this part writes the name of a utility that is built.
+fn is_known_part(part: &Part) -> bool
+    ensures { result ≡ is_known_part part.now }
 {
     match part {
-        Part::Plain(name) => name.as_slice() == b"echo".as_slice(),
+        Part::Plain(name) => {
+            name.as_slice() == b"echo".as_slice() || name.as_slice() == b"cat".as_slice()
+        }
         _ => false,
     }
 }
 
-fn is_echo_name(parts: &[Part]) -> bool
-    ensures { result ≡ is_echo_name parts.now }
+fn is_known_name(parts: &[Part]) -> bool
+    ensures { result ≡ is_known_name parts.now }
 {
     match parts {
-        [part] => is_echo_part(part),
+        [part] => is_known_part(part),
         _ => false,
     }
 }
 
-fn is_echo(words: &[Word]) -> bool
-    ensures { result ≡ is_echo words.now }
+fn is_known(words: &[Word]) -> bool
+    ensures { result ≡ is_known words.now }
 {
     match words {
-        [name, ..] => is_echo_name(name.parts.as_slice()),
+        [name, ..] => is_known_name(name.parts.as_slice()),
         [] => false,
     }
 }
@@ -93,7 +96,7 @@ fn is_built_command(command: &Command) -> bool
         } => {
             assigns.is_empty()
                 && are_built_words(words.as_slice())
-                && is_echo(words.as_slice())
+                && is_known(words.as_slice())
                 && redirs.is_empty()
         }
         _ => false,
@@ -139,8 +142,8 @@ fn are_built_pipelines(leaves: &[Pipeline]) -> bool
     leaves.iter().all(|pipeline| is_built_pipeline(pipeline))
 }
 
-/// Whether the whole script is of the forms that run: commands `echo`, one after another, whose words are plain bytes,
-/// quoted ones, or both, without a pattern or a tilde outside quotes.
+/// Whether the whole script is of the forms that run: commands `echo` and `cat`, one after another, whose words are plain
+/// bytes, quoted ones, or both, without a pattern or a tilde outside quotes.
 pub fn built(script: &Script) -> bool
     ensures { result ≡ is_built script.now }
 {

@@ -1,105 +1,94 @@
-//! One leaf: a simple command.
+//! A leaf that is run ahead of its turn.
 
-ghost use Rattle.std.specs.Prelude.{◌≡◌, ◌++◌, ℕ, suc, IfOk, OnOk};
+ghost use Rattle.std.specs.Arc.{arc_value};
+ghost use Rattle.std.specs.Prelude.{◌≡◌, ◌<◌, ◌≤◌, IfErr, IfOk, Some, false, slice_get};
+ghost use Rattle.hs_view.specs.Causes.{Rose};
+ghost use Rattle.hs_view.specs.Size.{trace_size};
+ghost use Rattle.hs_view.specs.View.{IsTree};
+ghost use Rattle.hs_world.specs.Reads.{Passes};
 ghost use Rattle.hs_world.specs.World.{WorldData};
-ghost use Rattle.sh_leaf.specs.Leaf.{echo_line, effects_of, field, fields, inner_bytes, inners, part_bytes, spaced};
-ghost use Rattle.sh_leaf.specs.Do.{Do, Gives, Status};
+ghost use Rattle.sh_leaf.specs.Command.{leaf_done};
+ghost use Rattle.sh_leaf.specs.Halting.{Halts, leaf_in};
 
-use hs_text::Text;
-use hs_world::{Effect, Effects, Fd};
-use sh_syntax::{Command, Part, Script, Word};
-use std::alloc::{AllocError, Global};
+use crate::command::run_command;
+use crate::fuel::Fuel;
+use crate::outcome::Outcome;
+use crate::record::Record;
+use hs_view::{Base, Halt, SpentKind, Trace, View};
+use sh_syntax::Script;
+use std::alloc::Global;
+use std::sync::Arc;
 
-/// Puts a part inside double quotes behind a line.
-fn push_inner(line: &mut Vec<u8>, part: &Part) -> Result<(), AllocError>
-    ensures { OnOk result (line.new.items ≡ line.old.items ++ inner_bytes part.now) }
+/// What is left of a view whose leaf came to a halt.
+pub(crate) fn halted<B: Base>(view: View<B>, halt: Halt) -> (B, Halt, Trace)
+    ensures base { result.0 ≡ view.base }
+    ensures halt { result.1 ≡ halt }
+    ensures reads { result.2.reads ≡ view.reads }
+    ensures effects { result.2.effects ≡ view.effects }
 {
-    match part {
-        Part::Plain(bytes) => line.extend_from_slice(bytes.as_slice())?,
-        Part::Escaped(byte) => line.push(*byte)?,
-        _ => {}
-    }
-    Ok(())
+    let (base, trace) = view.into_trace();
+    (base, halt, trace)
 }
 
-fn push_inners(line: &mut Vec<u8>, parts: &[Part]) -> Result<(), AllocError>
-    ensures { OnOk result (line.new.items ≡ line.old.items ++ inners parts.now) }
+/// The record of a leaf that came to an outcome.
+fn recorded<B: Base>(
+    script: Arc<Script>,
+    number: u32,
+    outcome: Outcome,
+    view: View<B>,
+) -> (B, Record)
+    requires writes { (B.seen view.base).writes ≡ false }
+    requires done { (w : WorldData) → IsTree w.tree → Passes view.reads w → leaf_done (slice_get (arc_value script).leaves number) w ≡ record { effects = view.effects; answer = outcome } }
+    ensures base { result.0 ≡ view.base }
+    ensures script { result.1.script ≡ arc_value script }
+    ensures number { result.1.number ≡ number }
+    ensures reads { result.1.reads ≡ view.reads }
+    ensures turns { result.1.turns ≡ 1 }
 {
-    for part in parts {
-        push_inner(line, part)?;
-    }
-    Ok(())
-}
-
-fn push_part(line: &mut Vec<u8>, part: &Part) -> Result<(), AllocError>
-    ensures { OnOk result (line.new.items ≡ line.old.items ++ part_bytes part.now) }
-{
-    match part {
-        Part::Plain(bytes) => line.extend_from_slice(bytes.as_slice())?,
-        Part::Single(bytes) => line.extend_from_slice(bytes.as_slice())?,
-        Part::Escaped(byte) => line.push(*byte)?,
-        Part::Double(parts) => push_inners(line, parts.as_slice())?,
-        _ => {}
-    }
-    Ok(())
-}
-
-/// Puts a word after quote removal behind a line (XCU 2.6.7).
-fn push_word(line: &mut Vec<u8>, word: &Word) -> Result<(), AllocError>
-    ensures { OnOk result (line.new.items ≡ line.old.items ++ field word.now) }
-{
-    for part in word.parts.as_slice() {
-        push_part(line, part)?;
-    }
-    Ok(())
-}
-
-fn push_spaced(line: &mut Vec<u8>, words: &[Word]) -> Result<(), AllocError>
-    ensures { OnOk result (line.new.items ≡ line.old.items ++ spaced (fields words.now)) }
-{
-    for word in words {
-        line.push(b' ')?;
-        push_word(line, word)?;
-    }
-    Ok(())
-}
-
-/// What `echo` writes: its arguments, separated by spaces, and a newline. It has no options, and writes backslashes as
-/// they are, which XCU, echo leaves open.
-fn echo_text(alloc: Global, args: &[Word]) -> Result<Text, AllocError>
-    ensures { IfOk result (λ line. line ≡ echo_line (fields args.now)) }
-{
-    let mut line = Vec::new(alloc);
-    if let [first, rest @ ..] = args {
-        push_word(&mut line, first)?;
-        push_spaced(&mut line, rest)?;
-    }
-    line.push(b'\n')?;
-    Text::from_vec(alloc, line)
-}
-
-/// The effects of a simple command with these words.
-fn simple_effects(alloc: Global, words: &[Word]) -> Result<Effects, AllocError>
-    ensures { IfOk result (λ effects. effects ≡ effects_of (fields words.now)) }
-{
-    let mut effects = Effects::new(alloc);
-    if let [_, args @ ..] = words {
-        effects.push(Effect::Emit(Fd::One, echo_text(alloc, args)?))?;
-    }
-    effects.push(Effect::SetStatus(0))?;
-    Ok(effects)
-}
-
-/// What the leaf does, in any state and with any turns of which there is one. A leaf that the script doesn't have sets
-/// status 0 alone.
-pub fn echo_effects(alloc: Global, script: &Script, number: u32) -> Result<Effects, AllocError>
-    ensures { IfOk result (λ effects. (w : WorldData) (turns : ℕ) → Do script.now number w (suc turns) ≡ record { effects = effects; turns = 1; came = Gives (Status 0) }) }
-{
-    let Some(pipeline) = script.leaves.get(number as usize) else {
-        return simple_effects(alloc, &[]);
+    let (base, trace) = view.into_trace();
+    let (reads, effects) = trace.into_parts();
+    let record = Record {
+        script,
+        number,
+        reads,
+        effects,
+        outcome,
+        turns: 1,
     };
-    match pipeline.stages.as_slice() {
-        [Command::Simple { words, .. }, ..] => simple_effects(alloc, words.as_slice()),
-        _ => simple_effects(alloc, &[]),
+    (base, record)
+}
+
+/// Runs a leaf ahead of its turn, over a base that does not write. The record holds in every state that passes its reads. A
+/// halt hands back what was read and done until then, which comes first among the leaf's effects in every such state.
+pub fn do_leaf<B: Base>(
+    alloc: Global,
+    script: &Arc<Script>,
+    number: u32,
+    fuel: Fuel,
+    base: B,
+) -> Result<(B, Record), (B, Halt, Trace)>
+    requires writes { (B.seen base).writes ≡ false }
+    ensures script { IfOk result (λ r. r.1.script ≡ arc_value script.now) }
+    ensures number { IfOk result (λ r. r.1.number ≡ number) }
+    ensures told { IfOk result (λ r. (w : WorldData) → (B.seen base).world ≡ Some w → ((B.seen r.0).world ≡ Some w) × Passes r.1.reads w) }
+    ensures turns { IfOk result (λ r. r.1.turns ≤ fuel.turns) }
+    ensures told_halted { IfErr result (λ r. (w : WorldData) → (B.seen base).world ≡ Some w → ((B.seen r.0).world ≡ Some w) × Passes r.2.reads w) }
+    ensures halts { IfErr result (λ r. Halts (leaf_in (arc_value script.now) number fuel) r.2.reads r.2.effects r.1) }
+    ensures trace { IfErr result (λ r. r.1 ≡ Halt.Trace → fuel.trace < trace_size r.2.reads r.2.effects) }
+    ensures fault { IfErr result (λ r. r.1 ≡ Halt.Fault → Rose (B.seen base).faults (B.seen r.0).faults) }
+{
+    let mut view = View::new(alloc, base, fuel.trace);
+    if fuel.turns == 0 {
+        return Err(halted(view, Halt::Spent(SpentKind::Turns)));
+    }
+    let Ok(kept) = script.clone() else {
+        return Err(halted(view, Halt::NoMemory));
+    };
+    match run_command(alloc, script, number, &mut view) {
+        Ok(outcome) => Ok(recorded(kept, number, outcome, view)),
+        Err(halt) => {
+            drop(kept);
+            Err(halted(view, halt))
+        }
     }
 }
