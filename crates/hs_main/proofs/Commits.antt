@@ -1,22 +1,24 @@
 -- Effects that are committed in two parts.
-use Rattle.std.proofs.Common.{◌≡◌, ℕ, ◌+◌, ◌<◌, ◌≤◌, List, [], ◌∷◌, ◌++◌, Option, Some, None, Err, ◌⊎◌, inl, inr, refl, sym, ap, subst, ◌∙◌, append_assoc, arith, length, take, drop, get_or}
+use Rattle.std.proofs.Common.{◌≡◌, ℕ, ◌+◌, ◌<◌, ◌≤◌, true, List, [], ◌∷◌, ◌++◌, Option, Some, None, Err, ◌⊎◌, inl, inr, refl, sym, ap, subst, ◌∙◌, append_assoc, arith, length, take, drop, get_or}
 use Rattle.std.proofs.lemmas.List.{take_more, take-append-drop}
 use Rattle.hs_world.specs.declared.effect.Effect.{Effect}
 use Rattle.hs_world.specs.declared.effect.Fd.{Fd}
 use Rattle.hs_world.specs.declared.effect.Fd.TheVariants.{One, Two}
 use Rattle.hs_world.specs.declared.world.Limit.{Limit}
 use Rattle.hs_world.specs.declared.effect.Effect.TheVariants.{Emit}
-use Rattle.hs_world.specs.World.{WorldData, Apply, Applied, passed, sent, sent_by, output, errors}
+use Rattle.hs_world.specs.World.{WorldData, AllValid, Apply, Applied, is_valid, passed, sent, sent_by, output, errors}
 use Rattle.hs_world.proofs.Laws.{Applied-append, written-append}
 use Rattle.hs_outside.specs.Causes.{Rose}
 use Rattle.hs_outside.specs.Streams.{appended}
 use Rattle.hs_outside.proofs.Fronts.{appended-nil, appended-append}
-use Rattle.sh_leaf.specs.declared.spent.SpentKind.{SpentKind}
-use Rattle.sh_leaf.specs.Run.{misfit, fitting, kind_of}
+use Rattle.hs_view.specs.Seen.{spent_of}
+use Rattle.hs_view.specs.Steps.{IsFront}
+use Rattle.hs_view.specs.declared.halt.SpentKind.{SpentKind}
+use Rattle.sh_leaf.specs.Cut.{misfit, fitting}
 use Rattle.sh_leaf.proofs.Cuts.{misfit-append, fitting-append, misfit-front, fitting-front}
 use Rattle.hs_main.specs.declared.commit.Stop.{Stop}
 use Rattle.hs_main.specs.declared.commit.Stop.TheVariants as stop
-use Rattle.hs_main.specs.Commit.{Streams, gained, IsCommitted, IsShort, IsCutOn, IsFront, IsFault, IsWant, Commits}
+use Rattle.hs_main.specs.Commit.{Streams, gained, IsCommitted, IsShort, IsCutOn, IsFault, IsWant, Commits}
 use Rattle.hs_main.specs.Through.{written_by, target_of, text_of, with_text}
 
 append-nil : {A : Type 0} (xs : List A) → xs ++ [] ≡ xs
@@ -107,7 +109,7 @@ short-append fd es fs w v u s t r c d = record {
 }
 
 front-append : (es fs done : List Effect) → IsFront done fs → IsFront (es ++ done) (es ++ fs)
-front-append es fs done f = record { rest = f.rest; whole = ap (λ (xs : List Effect). es ++ xs) f.whole ∙ sym (append_assoc es done f.rest) }
+front-append es fs done f = record { rest = f.rest; is = ap (λ (xs : List Effect). es ++ xs) f.is ∙ sym (append_assoc es done f.rest) }
 
 fault-append : {out err out' err' : Type 0} (es fs : List Effect) (w v u : WorldData) (s t r : Streams) → (out → out') → (err → err') →
     IsCommitted es w v s t → IsFault out err fs v u t r → IsFault out' err' (es ++ fs) w u s r
@@ -142,24 +144,24 @@ stops-before out err es fs w u s r (stop.Spent kind) (limit, m, k, d) = (
   subst (λ (xs : List Effect). IsCommitted xs w u s r) (sym (fitting-front es fs w limit m)) d,
 )
 stops-before out err es fs w u s r stop.OutFault (done, front, d) =
-    (done, record { rest = front.rest ++ fs; whole = ap (λ (xs : List Effect). xs ++ fs) front.whole ∙ append_assoc done front.rest fs }, d)
+    (done, record { rest = front.rest ++ fs; is = ap (λ (xs : List Effect). xs ++ fs) front.is ∙ append_assoc done front.rest fs }, d)
 stops-before out err es fs w u s r stop.NoMemory (done, front, d) =
-    (done, record { rest = front.rest ++ fs; whole = ap (λ (xs : List Effect). xs ++ fs) front.whole ∙ append_assoc done front.rest fs }, d)
+    (done, record { rest = front.rest ++ fs; is = ap (λ (xs : List Effect). xs ++ fs) front.is ∙ append_assoc done front.rest fs }, d)
 
 -- ---- one effect that stops
 
-pub one-spent : (out err : Type 0) (e : Effect) (w w' : WorldData) (s : Streams) (limit same-limit : Limit) (kind : SpentKind) → passed e w ≡ Some limit → same-limit ≡ limit → kind ≡ kind_of same-limit → w' ≡ w →
+pub one-spent : (out err : Type 0) (e : Effect) (w w' : WorldData) (s : Streams) (limit same-limit : Limit) (kind : SpentKind) → passed e w ≡ Some limit → same-limit ≡ limit → kind ≡ spent_of same-limit → w' ≡ w →
     Commits out err (e ∷ []) w w' s s (Err (stop.Spent kind))
 one-spent out err e w w' s limit same-limit kind p l k same = (
   limit,
   misfit-one e w (Some limit) p,
-  k ∙ ap (λ (x : Limit). kind_of x) l,
+  k ∙ ap (λ (x : Limit). spent_of x) l,
   subst (λ (xs : List Effect). IsCommitted xs w w' s s) (sym (fitting-none e w limit p)) (subst (λ (x : WorldData). IsCommitted [] w x s s) (sym same) (commits-nothing w s)),
 )
 
 pub one-wants : (out err : Type 0) (e : Effect) (w w' : WorldData) (s : Streams) → w' ≡ w → Commits out err (e ∷ []) w w' s s (Err stop.NoMemory)
 one-wants out err e w w' s same =
-    ([], record { rest = e ∷ []; whole = refl }, inl (subst (λ (x : WorldData). IsCommitted [] w x s s) (sym same) (commits-nothing w s)))
+    ([], record { rest = e ∷ []; is = refl }, inl (subst (λ (x : WorldData). IsCommitted [] w x s s) (sym same) (commits-nothing w s)))
 
 one-short : (fd : Fd) (e : Effect) (w w' : WorldData) (s t : Streams) (to : Option Fd) (text : List ℕ) → passed e w ≡ None → w' ≡ Apply e w → to ≡ target_of e w → text ≡ text_of e →
     IsCutOn fd s (with_text to text s) t (sent_by to fd text) → IsShort fd (e ∷ []) w w' s t
@@ -173,7 +175,7 @@ one-short fd e w w' s t to text p a g k c = record {
 }
 
 one-front : (e : Effect) → IsFront (e ∷ []) (e ∷ [])
-one-front e = record { rest = []; whole = refl }
+one-front e = record { rest = []; is = refl }
 
 pub one-faults : (out err : Type 0) (e : Effect) (w w' : WorldData) (s t : Streams) (to : Option Fd) (text : List ℕ) → passed e w ≡ None → w' ≡ Apply e w →
     to ≡ target_of e w → text ≡ text_of e →
@@ -208,6 +210,18 @@ stops-next {out' = out'} {err' = err'} es i e w v u s t r why f g h is c d =
     let a = stops-before out' err' (take i es ++ e ∷ []) (drop (i + 1) es) w u s r why (stops-append (take i es) (e ∷ []) w v u s t r why f g c d) in
     let same : (take i es ++ e ∷ []) ++ drop (i + 1) es ≡ es = ap (λ (xs : List Effect). xs ++ drop (i + 1) es) (taken es i e h is) ∙ take-append-drop (i + 1) es in
     subst (λ (xs : List Effect). Commits out' err' xs w u s r (Err why)) same a
+
+valid-at : (es : List Effect) (e : Effect) (fs : List Effect) (w : WorldData) → AllValid (es ++ e ∷ fs) w → is_valid e (Applied es w) ≡ true
+valid-at [] e fs w h = h.0
+valid-at (x ∷ es) e fs w h = valid-at es e fs (Apply x w) h.1
+
+-- the next effect is valid where those before it are committed
+pub valid-next : (es : List Effect) (i : ℕ) (e : Effect) (w v : WorldData) (s t : Streams) → i < length es → e ≡ get_or es i e →
+    AllValid es w → IsCommitted (take i es) w v s t → is_valid e v ≡ true
+valid-next es i e w v s t h is valid c =
+    let whole : take i es ++ e ∷ drop (i + 1) es ≡ es =
+    sym (append_assoc (take i es) (e ∷ []) (drop (i + 1) es)) ∙ ap (λ (xs : List Effect). xs ++ drop (i + 1) es) (taken es i e h is) ∙ take-append-drop (i + 1) es in
+    ap (λ (u : WorldData). is_valid e u) c.world ∙ valid-at (take i es) e (drop (i + 1) es) w (subst (λ (xs : List Effect). AllValid xs w) (sym whole) valid)
 
 pub rose-on : (a b c : ℕ) → b ≤ c → Rose a b → Rose a c
 rose-on a b c h r = omega arith

@@ -1,8 +1,7 @@
 -- The whole program.
-use Rattle.std.proofs.Common.{◌≡◌, ℕ, List, [], ◌∷◌, ◌++◌, Option, Some, None, Bool, true, false, T, Result, Ok, Err, OnOk, OnErr, inl, inr, refl, sym, ap, subst, ◌∙◌, ◌≤◌, ◌<◌, ◌⊎◌, zero, suc, length, get_or, arith}
+use Rattle.std.proofs.Common.{◌≡◌, ℕ, List, [], ◌∷◌, ◌++◌, Option, Some, None, true, false, T, Result, Ok, Err, OnOk, OnErr, inl, inr, refl, sym, ap, subst, ◌∙◌, ◌≤◌, ◌<◌, ◌⊎◌, zero, suc, length, get_or, arith}
 use Rattle.hs_world.specs.Files.{Files, is_over}
-use Rattle.sh_leaf.specs.declared.spent.SpentKind.{SpentKind}
-use Rattle.sh_leaf.specs.declared.spent.SpentKind.TheVariants as kind
+use Rattle.hs_view.specs.declared.halt.SpentKind.TheVariants as kind
 use Rattle.hs_outside.specs.Streams.{appended, IsCut}
 use Rattle.hs_outside.specs.declared.outside.Failed.{Failed}
 use Rattle.hs_main.specs.declared.ending.Ending.{Ending}
@@ -11,11 +10,11 @@ use Rattle.hs_main.specs.declared.ending.Report.{Report}
 use Rattle.hs_main.specs.Commit.{Streams, IsFault}
 use Rattle.hs_main.specs.Plain.{Runs, IsComplete}
 use Rattle.hs_main.proofs.Runs.{plain-complete}
-use Rattle.sh_leaf.specs.Run.{Serial}
+use Rattle.sh_leaf.specs.Cut.{Serial}
 use Rattle.sh_leaf.specs.Built.{is_built}
 use Rattle.sh_syntax.specs.declared.fault.Fault.{Fault}
 use Rattle.hs_main.specs.Ending.{IsTold}
-use Rattle.hs_main.specs.Top.{Asks, start, default_turns, IsRefused, IsUnbuilt, Parsed, IsScriptOf, Finds, FilesOf, IsLoaded, IsTooLarge, IsFailed, IsEnded, AskNothing, IsRun, RunsWords, IsCompleteFor, no_report}
+use Rattle.hs_main.specs.Top.{Asks, start, default_turns, IsRefused, IsUnbuilt, Parsed, IsScriptOf, Finds, FilesOf, IsLoaded, IsRun, RunsWords, IsCompleteFor, no_report}
 use Rattle.hs_world.specs.World.{WorldData, Applied}
 use Rattle.sh_syntax.specs.declared.tree.Script.{Script}
 use Rattle.sh_grammar.specs.Spells.{Spells}
@@ -35,6 +34,7 @@ run-ran host out err told words s t ending.OutFault report r = r
 run-ran host out err told words s t ending.HostFault report r = absurd r.runs
 run-ran host out err told words s t (ending.Spent kind.Turns) report r = r
 run-ran host out err told words s t (ending.Spent kind.Bytes) report r = r
+run-ran host out err told words s t (ending.Spent kind.Frames) report r = r
 run-ran host out err told words s t (ending.Spent kind.Tree) report r = inr r
 run-ran host out err told words s t ending.NoMemory report r = inr r
 
@@ -63,6 +63,7 @@ unloaded-of host host' out err told words text s ending.HostFault f asks files =
     (record { text = text; asks = asks; rose = f files }, record { report_is = refl; streams = refl })
 unloaded-of host host' out err told words text s (ending.Spent kind.Turns) f asks files = absurd files
 unloaded-of host host' out err told words text s (ending.Spent kind.Bytes) f asks files = absurd files
+unloaded-of host host' out err told words text s (ending.Spent kind.Frames) f asks files = absurd files
 unloaded-of host host' out err told words text s (ending.Spent kind.Tree) f asks files =
     inl (record { text = text; asks = asks; over = files }, record { report_is = refl; streams = refl })
 unloaded-of host host' out err told words text s ending.NoMemory f asks files = inl (record { report_is = refl; streams = refl })
@@ -171,6 +172,7 @@ words-later host out err err' told words s t ending.Unbuilt report f r = r
 words-later host out err err' told words s t ending.HostFault report f r = r
 words-later host out err err' told words s t (ending.Spent kind.Turns) report f r = run-later out err err' told words s t (ending.Spent kind.Turns) report f r
 words-later host out err err' told words s t (ending.Spent kind.Bytes) report f r = run-later out err err' told words s t (ending.Spent kind.Bytes) report f r
+words-later host out err err' told words s t (ending.Spent kind.Frames) report f r = run-later out err err' told words s t (ending.Spent kind.Frames) report f r
 words-later host out err err' told words s t (ending.Spent kind.Tree) report f (inl r) = inl r
 words-later host out err err' told words s t (ending.Spent kind.Tree) report f (inr r) = inr (run-later out err err' told words s t (ending.Spent kind.Tree) report f r)
 words-later host out err err' told words s t ending.OutFault report f r = run-later out err err' told words s t ending.OutFault report f r
@@ -200,8 +202,8 @@ run-complete : (host out err : Type 0) (told : Option Files) (words : List (List
 run-complete host out err told words s t ends report r text script files asks found built is within no-host =
     let same : r.script ≡ script = found.is.only r.script (subst (λ (x : List ℕ). Spells r.script x) (sym (one-asked words text r.text asks r.asks)) r.found.is.spelled) in
     let over : r.files ≡ files = told-is told r.files files r.loaded.is is in
-    subst (λ (f : Files). IsComplete out err (Serial script (start f) default_turns) ends) over
-    (subst (λ (x : Script). IsComplete out err (Serial x (start r.files) default_turns) ends) same (plain-complete out err r.script (start r.files) default_turns s t ends report r.runs))
+    subst (λ (f : Files). IsComplete out err (Serial script (start f) default_turns []) ends) over
+    (subst (λ (x : Script). IsComplete out err (Serial x (start r.files) default_turns []) ends) same (plain-complete out err r.script (start r.files) default_turns s t ends report r.runs))
 
 -- files within the limit do not pass it
 within-over : (told : Option Files) (files : Files) → IfSome told (λ f. is_over f ≡ true) → told ≡ Some files → is_over files ≡ false → ⊥
@@ -217,6 +219,7 @@ pub words-complete : (host out err : Type 0) (told : Option Files) (words : List
 words-complete host out err told words s t (ending.Done status) report r = run-complete host out err told words s t (ending.Done status) report r
 words-complete host out err told words s t (ending.Spent kind.Turns) report r = run-complete host out err told words s t (ending.Spent kind.Turns) report r
 words-complete host out err told words s t (ending.Spent kind.Bytes) report r = run-complete host out err told words s t (ending.Spent kind.Bytes) report r
+words-complete host out err told words s t (ending.Spent kind.Frames) report r = run-complete host out err told words s t (ending.Spent kind.Frames) report r
 words-complete host out err told words s t (ending.Spent kind.Tree) report (inl (r, u)) = λ text script files asks found built is within no-host.
     absurd (within-over told files r.over is within)
 words-complete host out err told words s t (ending.Spent kind.Tree) report (inr r) = run-complete host out err told words s t (ending.Spent kind.Tree) report r

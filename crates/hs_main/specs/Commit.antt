@@ -6,7 +6,9 @@ use Rattle.hs_world.specs.declared.effect.Fd.TheVariants.{One, Two}
 use Rattle.hs_world.specs.declared.world.Limit.{Limit}
 use Rattle.hs_world.specs.World.{WorldData, Applied, sent, output, errors}
 use Rattle.hs_outside.specs.Streams.{appended, IsCut}
-use Rattle.sh_leaf.specs.Run.{misfit, fitting, kind_of}
+use Rattle.hs_view.specs.Seen.{spent_of}
+use Rattle.hs_view.specs.Steps.{IsFront}
+use Rattle.sh_leaf.specs.Cut.{misfit, fitting}
 use Rattle.hs_main.specs.declared.commit.Stop.{Stop}
 use Rattle.hs_main.specs.declared.commit.Stop.TheVariants as stop
 
@@ -39,11 +41,6 @@ pub record IsShort (fd : Fd) (es : List Effect) (w w' : WorldData) (old new : St
   pub world : w' ≡ Applied es w
   pub cut : IsCutOn fd (gained front w old) (gained es w old) new (sent fd last (Applied front w))
 
--- These effects are first among others.
-pub record IsFront (front es : List Effect) : Type 0 where
-  pub rest : List Effect
-  pub whole : es ≡ front ++ rest
-
 -- A write failed, on a stream whose count of faults rose.
 abbrev pub IsFault : (out err : Type 0) → List Effect → WorldData → WorldData → Streams → Streams → Type 0
 IsFault out err es w w' old new = (out × IsShort One es w w' old new) ⊎ (err × IsShort Two es w w' old new)
@@ -57,6 +54,6 @@ IsWant es w w' old new = IsCommitted es w w' old new ⊎ (IsShort One es w w' ol
 abbrev pub Commits : (out err : Type 0) → List Effect → WorldData → WorldData → Streams → Streams → Result (Unit {0}) Stop → Type 0
 Commits out err es w w' old new (Ok u) = IsCommitted es w w' old new
 Commits out err es w w' old new (Err (stop.Spent kind)) =
-    (limit : Limit) × (misfit es w ≡ Some limit) × (kind ≡ kind_of limit) × IsCommitted (fitting es w) w w' old new
+    (limit : Limit) × (misfit es w ≡ Some limit) × (kind ≡ spent_of limit) × IsCommitted (fitting es w) w w' old new
 Commits out err es w w' old new (Err stop.OutFault) = (done : List Effect) × IsFront done es × IsFault out err done w w' old new
 Commits out err es w w' old new (Err stop.NoMemory) = (done : List Effect) × IsFront done es × IsWant done w w' old new

@@ -1,8 +1,8 @@
 -- The statuses of a run, and the lines that say how it ended.
 use Rattle.std.specs.Prelude.{◌≡◌, ℕ, List, [], ◌∷◌, ◌++◌, Option, codes, decimal}
 use Rattle.hs_outside.specs.Streams.{appended}
-use Rattle.sh_leaf.specs.declared.spent.SpentKind.{SpentKind}
-use Rattle.sh_leaf.specs.declared.spent.SpentKind.TheVariants.{Turns, Bytes, Tree}
+use Rattle.hs_view.specs.declared.halt.SpentKind.{SpentKind}
+use Rattle.hs_view.specs.declared.halt.SpentKind.TheVariants.{Turns, Bytes, Frames, Tree}
 use Rattle.hs_main.specs.declared.ending.Ending.{Ending}
 use Rattle.hs_main.specs.declared.ending.Ending.TheVariants.{Done, Syntax, Unbuilt, OutFault, HostFault, Spent, NoMemory}
 
@@ -18,6 +18,7 @@ status_of NoMemory = 125
 abbrev pub kind_name : SpentKind → List ℕ
 kind_name Turns = codes "turns"
 kind_name Bytes = codes "bytes"
+kind_name Frames = codes "frames"
 kind_name Tree = codes "tree"
 
 abbrev pub syntax_line_of : ℕ → List ℕ

@@ -1,8 +1,7 @@
 -- What the whole program does.
-use Rattle.std.specs.Prelude.{◌≡◌, ◌⊎◌, ℕ, ◌≤◌, List, [], ◌∷◌, ◌++◌, ◌<◌, false, true, Option, Some, Result, Ok, Err, IfSome, length, codes}
+use Rattle.std.specs.Prelude.{◌≡◌, ◌⊎◌, ℕ, ◌≤◌, List, [], ◌∷◌, ◌<◌, false, true, Option, Some, Result, Ok, Err, IfSome, length, codes}
 use Rattle.hs_world.specs.Files.{Files, is_over}
 use Rattle.hs_world.specs.World.{WorldData, new_world}
-use Rattle.hs_outside.specs.Streams.{appended}
 use Rattle.sh_syntax.specs.declared.tree.Script.{Script}
 use Rattle.sh_script.specs.Answers.{IsScript, IsBad}
 use Rattle.sh_script.specs.Longest.{longest}
@@ -16,8 +15,8 @@ use Rattle.hs_main.specs.declared.ending.Ending.TheVariants as ending
 use Rattle.hs_main.specs.declared.ending.Report.{Report}
 use Rattle.hs_main.specs.Ending.{line_of, IsTold}
 use Rattle.hs_main.specs.Commit.{Streams}
-use Rattle.sh_leaf.specs.Run.{Serial}
-use Rattle.sh_leaf.specs.declared.spent.SpentKind.TheVariants.{Tree}
+use Rattle.hs_view.specs.declared.halt.SpentKind.TheVariants.{Tree}
+use Rattle.sh_leaf.specs.Cut.{Serial}
 use Rattle.hs_main.specs.Plain.{Runs, IsComplete}
 
 -- ---- the words (POSIX.1-2017, XCU, sh: the option -c)
@@ -145,4 +144,4 @@ pub record Tops (host out err : Type 0) (told : Option Files) (words : List (Lis
 -- Where the words hand over a script that is built, and the host tells files within the limit and does not fail, its run is complete.
 abbrev pub IsCompleteFor : (host out err : Type 0) → Option Files → List (List ℕ) → Ending → Type 0
 IsCompleteFor host out err told words ends = (text : List ℕ) (script : Script) (files : Files) → Asks words text → IsScriptOf script text → is_built script ≡ true →
-    told ≡ Some files → is_over files ≡ false → (host → ⊥) → IsComplete out err (Serial script (start files) default_turns) ends
+    told ≡ Some files → is_over files ≡ false → (host → ⊥) → IsComplete out err (Serial script (start files) default_turns []) ends

@@ -1,14 +1,15 @@
 //! Committing effects: each is applied to the world first, and then written through to the streams.
 
-ghost use Rattle.std.specs.Prelude.{◌≡◌, ◌≤◌, [], ◌∷◌};
+ghost use Rattle.std.specs.Prelude.{◌≡◌, ◌≤◌, [], ◌∷◌, true};
+ghost use Rattle.hs_world.specs.World.{AllValid, is_valid};
 ghost use Rattle.hs_outside.specs.Causes.{Rose};
-ghost use Rattle.sh_leaf.specs.Run.{kind_of};
+ghost use Rattle.hs_view.specs.Seen.{spent_of};
 ghost use Rattle.hs_main.specs.Commit.{Commits, Streams};
 ghost use Rattle.hs_main.specs.Through.{Writes, target_of, text_of};
 
 use hs_outside::{Failed, Sink, send};
+use hs_view::SpentKind;
 use hs_world::{Effect, Fd, Limit, World, WorldErr};
-use sh_leaf::SpentKind;
 
 /// Why a run stopped in the middle.
 #[derive(Clone, Copy, Debug, PartialEq, Eq)]
@@ -20,7 +21,7 @@ pub enum Stop {
 }
 
 fn kind_of(limit: Limit) -> SpentKind
-    ensures { result ≡ kind_of limit }
+    ensures { result ≡ spent_of limit }
 {
     match limit {
         Limit::Bytes => SpentKind::Bytes,
@@ -67,13 +68,14 @@ fn write_through<O: Sink, E: Sink>(
     }
 }
 
-/// Commits one effect.
+/// Commits one effect, which is valid.
 fn commit<O: Sink, E: Sink>(
     world: &mut World,
     effect: &Effect,
     out: &mut O,
     err: &mut E,
 ) -> Result<(), Stop>
+    requires { is_valid effect.now world.old ≡ true }
     ensures commits { Commits (Rose (O.faults out.old) (O.faults out.new)) (Rose (E.faults err.old) (E.faults err.new)) (effect.now ∷ []) world.old world.new
         (record { out = O.written out.old; err = E.written err.old }) (record { out = O.written out.new; err = E.written err.new }) result }
     ensures out_later { O.faults out.old ≤ O.faults out.new }
@@ -92,13 +94,14 @@ fn commit<O: Sink, E: Sink>(
     }
 }
 
-/// Commits effects one after another, up to the first that cannot be.
+/// Commits effects, each valid where it comes, one after another, up to the first that cannot be.
 pub fn commit_all<O: Sink, E: Sink>(
     world: &mut World,
     effects: &[Effect],
     out: &mut O,
     err: &mut E,
 ) -> Result<(), Stop>
+    requires { AllValid effects.now world.old }
     ensures commits { Commits (Rose (O.faults out.old) (O.faults out.new)) (Rose (E.faults err.old) (E.faults err.new)) effects.now world.old world.new
         (record { out = O.written out.old; err = E.written err.old }) (record { out = O.written out.new; err = E.written err.new }) result }
     ensures out_later { O.faults out.old ≤ O.faults out.new }

@@ -3,8 +3,8 @@
 ghost use Rattle.std.specs.Prelude.{◌≡◌, IfOk};
 ghost use Rattle.hs_main.specs.Ending.{fixed_line_of, status_of, syntax_line_of};
 
+use hs_view::SpentKind;
 use itoa::Buffer;
-use sh_leaf::SpentKind;
 use sh_syntax::Fault;
 use std::alloc::{AllocError, Global};
 
@@ -53,6 +53,7 @@ impl Ending {
             Ending::Unbuilt => b"hs: not built yet\n",
             Ending::Spent(SpentKind::Turns) => b"hs: budget spent: turns\n",
             Ending::Spent(SpentKind::Bytes) => b"hs: budget spent: bytes\n",
+            Ending::Spent(SpentKind::Frames) => b"hs: budget spent: frames\n",
             Ending::Spent(SpentKind::Tree) => b"hs: budget spent: tree\n",
             Ending::NoMemory => b"hs: out of memory\n",
         }

@@ -10,8 +10,9 @@ use crate::run::plain;
 use crate::top::top;
 use hs_outside::{MemoryHost, MemorySink, MemorySource};
 use hs_text::{Text, TextList};
+use hs_view::SpentKind;
 use hs_world::{Entry, Limits, PathName, Tree, World};
-use sh_leaf::{SpentKind, built};
+use sh_leaf::built;
 use sh_script::parse;
 use sh_syntax::{Fault, Opening, Script};
 use std::alloc::{AllocError, Global};
@@ -293,22 +294,30 @@ fn ends(alloc: Global, host: &mut MemoryHost, ending: Ending, line: &[u8]) -> bo
     }
 }
 
-/// Puts an empty file into a tree.
-fn put_file(alloc: Global, tree: &mut Tree, name: &str) -> Result<(), AllocError> {
+/// Puts an entry at the path that a name has.
+fn put_entry(alloc: Global, tree: &mut Tree, name: &str, entry: Entry) -> Result<(), AllocError> {
     let root = PathName::root(alloc);
-    if let Some(path) = PathName::resolve(alloc, &root, name.as_bytes())? {
-        let _ = tree.insert(path, Entry::File(Text::new(alloc)));
+    match PathName::resolve(alloc, &root, name.as_bytes())? {
+        Some(path) => {
+            let _ = tree.insert(path, entry);
+        }
+        None => drop(entry),
     }
     Ok(())
+}
+
+/// Puts an empty file into a tree, and says whether that went well.
+fn put_file(alloc: Global, tree: &mut Tree, number: u32) -> bool {
+    match format!(in alloc; "f{number}") {
+        Ok(name) => put_entry(alloc, tree, &name, Entry::File(Text::new(alloc))).is_ok(),
+        Err(_) => false,
+    }
 }
 
 /// Puts so many empty files into a tree, and says whether that went well.
 fn put_files(alloc: Global, tree: &mut Tree, count: u32) -> bool {
     for number in 0..count {
-        let Ok(name) = format!(in alloc; "f{number}") else {
-            return false;
-        };
-        if put_file(alloc, tree, &name).is_err() {
+        if !put_file(alloc, tree, number) {
             return false;
         }
     }
@@ -355,5 +364,65 @@ fn fails_once(alloc: Global) -> bool {
 #[test]
 fn files_that_cannot_be_loaded_are_a_fault(rt: HostRuntime) -> Result<(), Fail> {
     assert!(rt; fails_once(rt.alloc()));
+    Ok(())
+}
+
+#[test]
+fn a_file_that_is_not_there_is_told(rt: HostRuntime) -> Result<(), Fail> {
+    let shown = run(rt.alloc(), &[b"-c", b"cat g; echo k"])?;
+    assert!(rt; shown.out.written() == b"k\n".as_slice());
+    assert!(rt; shown.err.written() == b"hs: cat: g: no such file\n".as_slice());
+    assert_eq!(rt; shown.answer.ending, Ending::Done(0));
+    Ok(())
+}
+
+/// Whether a script writes this over a host, and ends with this status.
+fn writes(
+    alloc: Global,
+    host: &mut MemoryHost,
+    script: &[u8],
+    out: &[u8],
+    err: &[u8],
+    status: u8,
+) -> bool {
+    let Ok((to_out, to_err)) = sinks(alloc) else {
+        return false;
+    };
+    match run_on(alloc, &[b"-c", script], host, to_out, to_err) {
+        Ok(shown) => {
+            shown.out.written() == out
+                && shown.err.written() == err
+                && shown.answer.ending == Ending::Done(status)
+        }
+        Err(_) => false,
+    }
+}
+
+/// Whether `cat` writes the file of a host, and tells that the folder is none.
+fn cats(alloc: Global, tree: Tree) -> bool {
+    match MemoryHost::new(tree, Vec::new(alloc)) {
+        Ok(mut host) => {
+            let told = b"hs: cat: d: is a folder\n";
+            writes(alloc, &mut host, b"cat f; cat f f", b"x\nx\nx\n", b"", 0)
+                && writes(alloc, &mut host, b"cat d", b"", told, 1)
+                && writes(alloc, &mut host, b"cat d f", b"x\n", told, 1)
+        }
+        Err(_) => false,
+    }
+}
+
+fn cats_a_file(alloc: Global) -> bool {
+    let mut tree = Tree::new(alloc);
+    let Ok(text) = Text::from_slice(alloc, b"x\n") else {
+        return false;
+    };
+    put_entry(alloc, &mut tree, "f", Entry::File(text)).is_ok()
+        && put_entry(alloc, &mut tree, "d", Entry::Dir).is_ok()
+        && cats(alloc, tree)
+}
+
+#[test]
+fn files_are_written_and_folders_are_not(rt: HostRuntime) -> Result<(), Fail> {
+    assert!(rt; cats_a_file(rt.alloc()));
     Ok(())
 }

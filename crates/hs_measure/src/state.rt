@@ -26,7 +26,7 @@ fn path(alloc: Global, text: &str) -> anyhow::Result<PathName> {
 
 fn apply_all(world: &mut World, effects: &[Effect]) -> bool {
     for effect in effects {
-        if world.apply(effect).is_err() {
+        if !world.valid(effect) || world.apply(effect).is_err() {
             return false;
         }
     }
@@ -169,10 +169,13 @@ fn compare_with(world: &World, loc: &Loc, value: &Value, count: u32) -> u64 {
 /// How often a state that an effect was done to holds a value.
 fn compared(alloc: Global, put: &Effect, loc: &Loc, value: &Value, count: u32) -> u64 {
     match begin(alloc, Vec::new(alloc)) {
-        Some(mut world) => match world.apply(put) {
-            Ok(()) => compare_with(&world, loc, value, count),
-            Err(_) => 0,
-        },
+        Some(mut world) => {
+            if world.valid(put) && world.apply(put).is_ok() {
+                compare_with(&world, loc, value, count)
+            } else {
+                0
+            }
+        }
         None => 0,
     }
 }

@@ -1,10 +1,11 @@
 use Rattle.std.proofs.Common.{◌≡◌, ◌≤◌}
+use Rattle.std.specs.Arc.{arc_value}
 use Rattle.hs_main.proofs.Runs.{Reached}
 use Rattle.hs_main.proofs.run.run_items.Given as goal
 
 abbrev pub invariant-loop-item : goal.invariant-loop-item
 invariant-loop-item g l = record {
-  reached : Reached l.script l.items l.item-index l.status l.fn.run.world l.fn.run.turns l.run.world l.run.turns l.run.head
+  reached : Reached (arc_value l.script) l.items l.item-index l.outcome l.fn.run.world l.fn.run.turns l.run.world l.run.turns l.run.head
       (record { out = g.O.Sink.written l.fn.out; err = g.E.Sink.written l.fn.err }) (record { out = g.O.Sink.written l.out; err = g.E.Sink.written l.err });
   head : l.run.head ≡ l.item-index;
   out_later : g.O.Sink.faults l.fn.out ≤ g.O.Sink.faults l.out;

@@ -1,4 +1,4 @@
-use Rattle.std.proofs.Common.{◌≡◌, Bool, true, false, T, Err, subst, sym, ap, ◌∙◌}
+use Rattle.std.proofs.Common.{◌≡◌, T, Err, subst, sym, ap, ◌∙◌}
 use Rattle.hs_world.specs.declared.world.Limit.TheVariants.{Bytes, Tree}
 use Rattle.hs_world.specs.declared.world.WorldErr.TheVariants.{Full}
 use Rattle.hs_main.proofs.top.start.Goals as goal
