@@ -40,9 +40,51 @@ const ALL: [Class; 12] = [
     Class::Xdigit,
 ];
 
+const CONTROL: ByteRange = ByteRange { low: 0, high: 31 };
+
+const DELETE: ByteRange = ByteRange {
+    low: 127,
+    high: 127,
+};
+
+const TAB: ByteRange = ByteRange {
+    low: b'\t',
+    high: b'\t',
+};
+
+const SPACES: ByteRange = ByteRange {
+    low: b'\t',
+    high: b'\r',
+};
+
+const SPACE: ByteRange = ByteRange {
+    low: b' ',
+    high: b' ',
+};
+
+const PRINTED: ByteRange = ByteRange {
+    low: b' ',
+    high: b'~',
+};
+
+const GRAPHIC: ByteRange = ByteRange {
+    low: b'!',
+    high: b'~',
+};
+
+const BEFORE_DIGITS: ByteRange = ByteRange {
+    low: b'!',
+    high: b'/',
+};
+
 const DIGIT: ByteRange = ByteRange {
     low: b'0',
     high: b'9',
+};
+
+const BEFORE_UPPER: ByteRange = ByteRange {
+    low: b':',
+    high: b'@',
 };
 
 const UPPER: ByteRange = ByteRange {
@@ -50,9 +92,29 @@ const UPPER: ByteRange = ByteRange {
     high: b'Z',
 };
 
+const HEX_UPPER: ByteRange = ByteRange {
+    low: b'A',
+    high: b'F',
+};
+
+const BEFORE_LOWER: ByteRange = ByteRange {
+    low: b'[',
+    high: b'`',
+};
+
 const LOWER: ByteRange = ByteRange {
     low: b'a',
     high: b'z',
+};
+
+const HEX_LOWER: ByteRange = ByteRange {
+    low: b'a',
+    high: b'f',
+};
+
+const BEHIND_LOWER: ByteRange = ByteRange {
+    low: b'{',
+    high: b'~',
 };
 
 impl Class {
@@ -83,73 +145,16 @@ impl Class {
         match self {
             Class::Alnum => &[DIGIT, UPPER, LOWER],
             Class::Alpha => &[UPPER, LOWER],
-            Class::Blank => &[
-                ByteRange {
-                    low: b'\t',
-                    high: b'\t',
-                },
-                ByteRange {
-                    low: b' ',
-                    high: b' ',
-                },
-            ],
-            Class::Cntrl => &[
-                ByteRange { low: 0, high: 31 },
-                ByteRange {
-                    low: 127,
-                    high: 127,
-                },
-            ],
+            Class::Blank => &[TAB, SPACE],
+            Class::Cntrl => &[CONTROL, DELETE],
             Class::Digit => &[DIGIT],
-            Class::Graph => &[ByteRange {
-                low: b'!',
-                high: b'~',
-            }],
+            Class::Graph => &[GRAPHIC],
             Class::Lower => &[LOWER],
-            Class::Print => &[ByteRange {
-                low: b' ',
-                high: b'~',
-            }],
-            Class::Punct => &[
-                ByteRange {
-                    low: b'!',
-                    high: b'/',
-                },
-                ByteRange {
-                    low: b':',
-                    high: b'@',
-                },
-                ByteRange {
-                    low: b'[',
-                    high: b'`',
-                },
-                ByteRange {
-                    low: b'{',
-                    high: b'~',
-                },
-            ],
-            Class::Space => &[
-                ByteRange {
-                    low: b'\t',
-                    high: b'\r',
-                },
-                ByteRange {
-                    low: b' ',
-                    high: b' ',
-                },
-            ],
+            Class::Print => &[PRINTED],
+            Class::Punct => &[BEFORE_DIGITS, BEFORE_UPPER, BEFORE_LOWER, BEHIND_LOWER],
+            Class::Space => &[SPACES, SPACE],
             Class::Upper => &[UPPER],
-            Class::Xdigit => &[
-                DIGIT,
-                ByteRange {
-                    low: b'A',
-                    high: b'F',
-                },
-                ByteRange {
-                    low: b'a',
-                    high: b'f',
-                },
-            ],
+            Class::Xdigit => &[DIGIT, HEX_UPPER, HEX_LOWER],
         }
     }
 
