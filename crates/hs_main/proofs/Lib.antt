@@ -1,4 +1,1 @@
-pub mod Commits
-pub mod Leaves
-pub mod Runs
 pub mod Tops

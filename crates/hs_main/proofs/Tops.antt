@@ -4,16 +4,16 @@ use Rattle.hs_world.specs.Files.{Files, is_over}
 use Rattle.hs_view.specs.declared.halt.SpentKind.TheVariants as kind
 use Rattle.hs_outside.specs.Streams.{appended, IsCut}
 use Rattle.hs_outside.specs.declared.outside.Failed.{Failed}
-use Rattle.hs_main.specs.declared.ending.Ending.{Ending}
-use Rattle.hs_main.specs.declared.ending.Ending.TheVariants as ending
-use Rattle.hs_main.specs.declared.ending.Report.{Report}
-use Rattle.hs_main.specs.Commit.{Streams, IsFault}
-use Rattle.hs_main.specs.Plain.{Runs, IsComplete}
-use Rattle.hs_main.proofs.Runs.{plain-complete}
+use Rattle.hs_drive.specs.declared.ending.Ending.{Ending}
+use Rattle.hs_drive.specs.declared.ending.Ending.TheVariants as ending
+use Rattle.hs_drive.specs.declared.ending.Report.{Report}
+use Rattle.hs_drive.specs.Commit.{Streams, IsFault}
+use Rattle.hs_drive.specs.Plain.{Runs, IsComplete}
+use Rattle.hs_drive.proofs.Runs.{plain-complete}
 use Rattle.sh_leaf.specs.Cut.{Serial}
 use Rattle.sh_leaf.specs.Built.{is_built}
 use Rattle.sh_syntax.specs.declared.fault.Fault.{Fault}
-use Rattle.hs_main.specs.Ending.{IsTold}
+use Rattle.hs_drive.specs.Ending.{IsTold}
 use Rattle.hs_main.specs.Top.{Asks, start, default_turns, IsRefused, IsUnbuilt, Parsed, IsScriptOf, Finds, FilesOf, IsLoaded, IsRun, RunsWords, IsCompleteFor, no_report}
 use Rattle.hs_world.specs.World.{WorldData, Applied}
 use Rattle.sh_syntax.specs.declared.tree.Script.{Script}

@@ -1,5 +1,1 @@
-pub mod Commit
-pub mod Ending
-pub mod Plain
-pub mod Through
 pub mod Top

@@ -10,14 +10,14 @@ use Rattle.sh_script.specs.declared.error.ParseErr.TheVariants as err
 use Rattle.sh_syntax.specs.declared.fault.Fault.{Fault}
 use Rattle.sh_syntax.specs.declared.fault.Fault.TheVariants.{TooLong}
 use Rattle.sh_leaf.specs.Built.{is_built}
-use Rattle.hs_main.specs.declared.ending.Ending.{Ending}
-use Rattle.hs_main.specs.declared.ending.Ending.TheVariants as ending
-use Rattle.hs_main.specs.declared.ending.Report.{Report}
-use Rattle.hs_main.specs.Ending.{line_of, IsTold}
-use Rattle.hs_main.specs.Commit.{Streams}
+use Rattle.hs_drive.specs.declared.ending.Ending.{Ending}
+use Rattle.hs_drive.specs.declared.ending.Ending.TheVariants as ending
+use Rattle.hs_drive.specs.declared.ending.Report.{Report}
+use Rattle.hs_drive.specs.Ending.{line_of, IsTold}
+use Rattle.hs_drive.specs.Commit.{Streams}
 use Rattle.hs_view.specs.declared.halt.SpentKind.TheVariants.{Tree}
 use Rattle.sh_leaf.specs.Cut.{Serial}
-use Rattle.hs_main.specs.Plain.{Runs, IsComplete}
+use Rattle.hs_drive.specs.Plain.{Runs, IsComplete}
 
 -- ---- the words (POSIX.1-2017, XCU, sh: the option -c)
 

@@ -1,10 +1,7 @@
 //! The shell hS: runs a script that is handed over with `-c`.
 #![tactic(auto)]
 
-mod commit;
-mod ending;
 mod gate;
-mod run;
 mod stream;
 #[cfg(test)]
 mod tests;

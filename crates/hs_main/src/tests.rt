@@ -4,10 +4,9 @@ ghost use Rattle.std.specs.Arc.{arc_value};
 ghost use Rattle.std.specs.Prelude.{◌≡◌, ◌≤◌, true};
 ghost use Rattle.sh_leaf.specs.Built.{is_built};
 
-use crate::ending::{Answer, Ending, Report};
 use crate::gate::NoGate;
-use crate::run::plain;
-use crate::top::top;
+use crate::top::{Answer, top};
+use hs_drive::{Ending, Report, plain};
 use hs_outside::{MemoryHost, MemorySink, MemorySource};
 use hs_text::{Text, TextList};
 use hs_view::SpentKind;

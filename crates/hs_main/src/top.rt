@@ -3,13 +3,12 @@
 ghost use Rattle.std.specs.Prelude.{◌≡◌, ◌≤◌, ℕ, List, IfOk, MatchOption, false};
 ghost use Rattle.hs_outside.specs.Causes.{Rose};
 ghost use Rattle.hs_world.specs.Files.{is_over};
-ghost use Rattle.hs_main.specs.Ending.{IsTold, line_of, status_of, syntax_line_of};
-ghost use Rattle.hs_main.specs.Commit.{Streams};
+ghost use Rattle.hs_drive.specs.Ending.{IsTold, line_of, status_of, syntax_line_of};
+ghost use Rattle.hs_drive.specs.Commit.{Streams};
 ghost use Rattle.hs_main.specs.Top.{Asks, FilesOf, Finds, IsCompleteFor, Parsed, RunsWords, Tops, no_report, start};
 
-use crate::ending::{Answer, Ending, Report, syntax_line};
 use crate::gate::Gate;
-use crate::run::plain;
+use hs_drive::{Ending, Report, plain, syntax_line};
 use hs_outside::{Host, HostErr, Sink, Source, send};
 use hs_text::{Text, TextList};
 use hs_view::SpentKind;
@@ -19,6 +18,14 @@ use sh_script::{ParseErr, parse};
 use sh_syntax::Script;
 use std::alloc::{AllocError, Global};
 use std::sync::Arc;
+
+/// The answer of the whole program.
+#[derive(Clone, Copy, Debug, PartialEq, Eq)]
+pub struct Answer {
+    pub status: u8,
+    pub ending: Ending,
+    pub report: Report,
+}
 
 /// The limits of a run that is given none.
 const LIMITS: Limits = Limits {

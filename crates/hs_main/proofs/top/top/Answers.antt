@@ -1,5 +1,5 @@
 use Rattle.std.proofs.Common.{refl}
-use Rattle.hs_main.proofs.Commits.{rose-on}
+use Rattle.hs_drive.proofs.Commits.{rose-on}
 use Rattle.hs_main.proofs.Tops.{words-later, words-complete}
 use Rattle.hs_main.proofs.top.top.Goals as goal
 

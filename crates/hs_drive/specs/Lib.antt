@@ -1,0 +1,4 @@
+pub mod Commit
+pub mod Ending
+pub mod Plain
+pub mod Through
