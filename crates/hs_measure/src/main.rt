@@ -10,12 +10,20 @@
 //!     hs_measure equal COUNT     compares a file of 1 MiB with an equal text, so many times
 //!     hs_measure longer COUNT    the same with a text that is longer by one byte
 //!
+//!     hs_measure view COUNT      does so many effects in a view, and reads one location for each ten of them
+//!
 //!     hs_measure parse FILE      reads the script of a file, and prints how many pipelines it has
 //!
-//! Each of the others prints how many effects or entries came, or comparisons said yes.
+//!     hs_measure run FILES BYTES SCRIPT
+//!
+//! runs a script over so many files `f0`, `f1` and so on, each of so many bytes, and prints how many bytes it writes.
+//!
+//! Each of the others prints how many effects, entries or reads came, or comparisons said yes.
 #![tactic(auto)]
 
+mod runs;
 mod state;
+mod views;
 
 use anyhow::{Context, bail};
 use hs_text::Field;
@@ -56,6 +64,7 @@ fn work(alloc: Global, kind: &str, count: u32) -> anyhow::Result<u64> {
         "shells" => state::shells(alloc, count),
         "equal" => state::compare(alloc, count, 1_048_576),
         "longer" => state::compare(alloc, count, 1_048_577),
+        "view" => Ok(views::view(alloc, count)),
         _ => bail!("no such work"),
     }
 }
@@ -76,6 +85,12 @@ fn main(rt: HostRuntime) -> anyhow::Result<()> {
             let answer = match_text(rt.alloc(), pattern.as_str(), piece.as_str(), count)?;
             println!(rt; "{answer}")?;
         }
+        [kind, files, bytes, script] if kind.as_str() == "run" => {
+            let files = files.parse::<u32>().context("FILES is no number")?;
+            let bytes = bytes.parse::<u32>().context("BYTES is no number")?;
+            let answer = runs::run(rt.alloc(), files, bytes, script.as_bytes())?;
+            println!(rt; "{answer}")?;
+        }
         [kind, file] if kind.as_str() == "parse" => {
             let text = fs::read(&rt, file.as_str())?;
             let count = leaves(rt.alloc(), &text)?;
@@ -87,7 +102,7 @@ fn main(rt: HostRuntime) -> anyhow::Result<()> {
             println!(rt; "{answer}")?;
         }
         _ => bail!(
-            "usage: hs_measure match PATTERN PIECE COUNT, hs_measure parse FILE, or hs_measure WORK COUNT"
+            "usage: hs_measure match PATTERN PIECE COUNT, hs_measure run FILES BYTES SCRIPT, hs_measure parse FILE, or hs_measure WORK COUNT"
         ),
     }
     Ok(())

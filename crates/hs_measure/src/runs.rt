@@ -1,0 +1,127 @@
+//! Runs of scripts over files in memory.
+
+ghost use Rattle.std.specs.Arc.{arc_value};
+ghost use Rattle.std.specs.Prelude.{◌≡◌, true};
+ghost use Rattle.sh_leaf.specs.Built.{is_built};
+
+use anyhow::bail;
+use hs_drive::{Ending, plain};
+use hs_outside::{Failed, MemoryHost, Sink};
+use hs_text::{Text, TextList};
+use hs_world::{Entry, Limits, PathName, Tree, World};
+use sh_leaf::built;
+use sh_script::parse;
+use sh_syntax::Script;
+use std::alloc::{AllocError, Global};
+use std::sync::Arc;
+
+const LIMITS: Limits = Limits {
+    bytes: 268_435_456,
+    turns: 1_000_000,
+};
+
+/// Counts the bytes that it takes, and keeps none. It never fails.
+#[derive(Drop)]
+struct Counter {
+    taken: u64,
+}
+
+impl Sink for Counter {
+    ghost use Rattle.std.specs.Prelude.{None};
+
+    ghost written = { λ s. None };
+
+    ghost faults = { λ s. 0 };
+
+    fn write(&mut self, piece: &[u8]) -> Result<u32, Failed> {
+        let count = piece.len().min(0xffff_ffff);
+        self.taken = self.taken.saturating_add(count as u64);
+        Ok(count as u32)
+    }
+}
+
+/// Puts the files `f0`, `f1` and so on into a tree, all with this text, and says whether that went well.
+fn fill(alloc: Global, tree: &mut Tree, count: u32, text: &Text) -> bool {
+    for place in 0..count {
+        if !put(alloc, tree, place, text) {
+            return false;
+        }
+    }
+    true
+}
+
+fn put(alloc: Global, tree: &mut Tree, place: u32, text: &Text) -> bool {
+    let (Ok(Some(path)), Ok(text)) = (path(alloc, place), text.clone()) else {
+        return false;
+    };
+    tree.insert(path, Entry::File(text)).is_ok()
+}
+
+fn path(alloc: Global, place: u32) -> Result<Option<PathName>, AllocError> {
+    let name = format!(in alloc; "f{place}")?;
+    let root = PathName::root(alloc);
+    PathName::resolve(alloc, &root, name.as_bytes())
+}
+
+/// A text of so many bytes, in lines of 64.
+fn lines(alloc: Global, size: u32) -> Result<Text, AllocError> {
+    let mut bytes = vec![in alloc; b'a'; size as usize]?;
+    let mut place = 63;
+    while place < bytes.len() {
+        bytes[place] = b'\n';
+        place += 64;
+    }
+    Text::from_vec(alloc, bytes)
+}
+
+/// The bytes that a script which is built writes over this state.
+fn written(alloc: Global, script: Arc<Script>, world: World) -> Option<u64>
+    requires { is_built (arc_value script) ≡ true }
+{
+    let mut host = MemoryHost::new(Tree::new(alloc), Vec::new(alloc)).ok()?;
+    let (mut out, mut err) = (Counter { taken: 0 }, Counter { taken: 0 });
+    let (ending, _) = plain(alloc, script, world, LIMITS, &mut host, &mut out, &mut err);
+    match ending {
+        Ending::Done(_) => Some(out.taken),
+        _ => None,
+    }
+}
+
+fn begin(alloc: Global, tree: Tree) -> Option<World> {
+    let (zero, params, input) = (Text::new(alloc), TextList::new(alloc), Text::new(alloc));
+    World::new(alloc, tree, Vec::new(alloc), zero, params, input, LIMITS).ok()
+}
+
+fn run_over(alloc: Global, script: Arc<Script>, tree: Tree) -> Option<u64>
+    requires { is_built (arc_value script) ≡ true }
+{
+    match begin(alloc, tree) {
+        Some(world) => written(alloc, script, world),
+        None => None,
+    }
+}
+
+fn run_files(alloc: Global, script: Arc<Script>, count: u32, text: &Text) -> Option<u64>
+    requires { is_built (arc_value script) ≡ true }
+{
+    let mut tree = Tree::new(alloc);
+    if fill(alloc, &mut tree, count, text) {
+        return run_over(alloc, script, tree);
+    }
+    None
+}
+
+/// Runs a script over so many files of so many bytes, and answers how many bytes it wrote on standard output.
+pub fn run(alloc: Global, count: u32, size: u32, text: &[u8]) -> anyhow::Result<u64> {
+    let content = lines(alloc, size)?;
+    let Ok(script) = parse(alloc, text) else {
+        bail!("the text spells no script");
+    };
+    if !built(&script) {
+        bail!("the script is not built");
+    }
+    match run_files(alloc, Arc::new(alloc, script)?, count, &content) {
+        Some(bytes) => Ok(bytes),
+        None => bail!("the run did not end"),
+    }
+}
