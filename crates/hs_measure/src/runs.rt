@@ -50,17 +50,21 @@ fn fill(alloc: Global, tree: &mut Tree, count: u32, text: &Text) -> bool {
     true
 }
 
-fn put(alloc: Global, tree: &mut Tree, place: u32, text: &Text) -> bool {
-    let (Ok(Some(path)), Ok(text)) = (path(alloc, place), text.clone()) else {
-        return false;
-    };
-    tree.insert(path, Entry::File(text)).is_ok()
-}
-
-fn path(alloc: Global, place: u32) -> Result<Option<PathName>, AllocError> {
+/// The path of one file, and its entry.
+fn file(alloc: Global, place: u32, text: &Text) -> Result<Option<(PathName, Entry)>, AllocError> {
     let name = format!(in alloc; "f{place}")?;
     let root = PathName::root(alloc);
-    PathName::resolve(alloc, &root, name.as_bytes())
+    match PathName::resolve(alloc, &root, name.as_bytes())? {
+        Some(path) => Ok(Some((path, Entry::File(text.clone()?)))),
+        None => Ok(None),
+    }
+}
+
+fn put(alloc: Global, tree: &mut Tree, place: u32, text: &Text) -> bool {
+    match file(alloc, place, text) {
+        Ok(Some((path, entry))) => tree.insert(path, entry).is_ok(),
+        _ => false,
+    }
 }
 
 /// A text of so many bytes, in lines of 64.
