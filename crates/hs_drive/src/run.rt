@@ -65,26 +65,26 @@ fn in_folders(world: &World)
 
 /// Commits what a leaf did, and spends its record.
 fn commit_record<O: Sink, E: Sink>(
-    record: Record,
+    ran: Record,
     run: Run,
     out: &mut O,
     err: &mut E,
 ) -> (Run, Result<Outcome, Stop>)
-    requires passes { Passes record.reads run.world }
-    requires turns { record.turns ≤ run.turns }
-    ensures runs { LeafRuns (Rose (O.faults out.old) (O.faults out.new)) (Rose (E.faults err.old) (E.faults err.new)) record.script record.number run.world result.0.world run.turns result.0.turns
+    requires passes { Passes ran.reads run.world }
+    requires turns { ran.turns ≤ run.turns }
+    ensures runs { LeafRuns (Rose (O.faults out.old) (O.faults out.new)) (Rose (E.faults err.old) (E.faults err.new)) ran.script ran.number run.world result.0.world run.turns result.0.turns
         (record { out = O.written out.old; err = E.written err.old }) (record { out = O.written out.new; err = E.written err.new }) result.1 }
     ensures head { result.0.head ≡ run.head }
     ensures out_later { O.faults out.old ≤ O.faults out.new }
     ensures err_later { E.faults err.old ≤ E.faults err.new }
 {
     let mut run = run;
-    record.promise();
+    ran.promise();
     in_folders(&run.world);
-    run.turns -= record.turns();
-    let outcome = record.outcome();
-    let committed = commit_all(&mut run.world, record.effects().as_slice(), out, err);
-    record.drop_it();
+    run.turns -= ran.turns();
+    let outcome = ran.outcome();
+    let committed = commit_all(&mut run.world, ran.effects().as_slice(), out, err);
+    ran.drop_it();
     match committed {
         Ok(()) => (run, Ok(outcome)),
         Err(stop) => (run, Err(stop)),
