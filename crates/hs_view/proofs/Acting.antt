@@ -1,32 +1,30 @@
 -- Commands part by part, with all that they keep.
-use Rattle.std.proofs.Common.{◌≡◌, T, Bool, true, false, List, [], ◌∷◌, ◌++◌, refl, sym, ap, ◌∙◌, subst, append_assoc, append-nil}
-use Rattle.std.proofs.Common.{◌⊎◌, inl, inr}
-use Rattle.std.specs.Prelude.{Option, Some, None, option_map, Result, Ok, Err, IsErr, IsErrAnd, IfSome, ◌≤◌, ◌<◌, ◌↔◌}
+use Rattle.std.proofs.Common.{◌≡◌, Bool, true, false, List, [], ◌∷◌, ◌++◌, refl, sym, ap, ◌∙◌, subst, append_assoc, append-nil}
+use Rattle.std.specs.Prelude.{Option, Some, None, Result, Ok, Err, IsErr, IsErrAnd, IfSome, ◌≤◌, ◌<◌, ◌↔◌}
 use native.Mathlib.Omega.{arith}
 use Rattle.hs_world.specs.Reads.{ReadList}
-use Rattle.hs_world.specs.World.{WorldData, Apply, Applied}
+use Rattle.hs_world.specs.World.{WorldData, Applied, passed}
 use Rattle.hs_world.specs.declared.effect.Effect.{Effect}
-use Rattle.hs_world.proofs.Laws.{Applied-append}
-use Rattle.hs_world.specs.World.{passed}
 use Rattle.hs_world.specs.declared.world.Limit.{Limit}
 use Rattle.hs_world.specs.declared.world.Limit.TheVariants as limit
-use Rattle.hs_overlay.specs.Overlay.{OverlayData, no_overlay, over_all}
+use Rattle.hs_overlay.specs.Overlay.{no_overlay, over_all}
 use Rattle.hs_overlay.specs.Sizes.{over_passes}
 use Rattle.hs_view.specs.Acts.{Acts, Loops, Refused, Refuses, then_by, answering, only, refused_by}
 use Rattle.hs_view.specs.Causes.{Rose}
 use Rattle.hs_view.specs.Fetches.{Fetches}
 use Rattle.hs_view.specs.Known.{tables_of, ends_in, routes_in}
 use Rattle.hs_view.specs.Puts.{HaltsWhere, Puts, done_by}
-use Rattle.hs_view.specs.Seen.{SeenData, IsLeft, spent_of}
+use Rattle.hs_view.specs.Seen.{SeenData, spent_of}
 use Rattle.hs_view.specs.Size.{trace_size}
-use Rattle.hs_view.specs.Steps.{Done, Does, Halted, IsFront, Towards, nothing}
-use Rattle.hs_view.specs.View.{Viewed, Keeps, Showed, own}
+use Rattle.hs_view.specs.Steps.{Done, Does, Halted, nothing}
+use Rattle.hs_view.specs.View.{Viewed, Keeps, Showed, moved_by, own}
 use Rattle.hs_view.specs.declared.halt.Halt.{Halt}
 use Rattle.hs_view.specs.declared.halt.Halt.TheVariants as halt
 use Rattle.hs_view.specs.declared.halt.SpentKind.{SpentKind}
 use Rattle.hs_view.specs.declared.halt.SpentKind.TheVariants as kind
-use Rattle.hs_view.proofs.Keeping.{keeps_refl, keeps_as, keeps_halt, keeps_then, rose_later, showed_earlier, showed_next, showed_same}
-use Rattle.hs_view.proofs.Steps.{front_all, front_none, front_of, halted_none, halted_first, halted_then}
+use Rattle.hs_view.proofs.Keeping.{cancel, moved_none, moved_then, keeps_refl, keeps_as, keeps_halt, keeps_then, rose_later, showed_earlier, showed_next, showed_same}
+use Rattle.hs_view.proofs.Several.{put_halted}
+use Rattle.hs_view.proofs.Steps.{halted_none, halted_first, halted_then}
 
 -- ---- what an answer is not
 
@@ -81,6 +79,7 @@ acts_memory {B} {A} seen meaning v = record {
   trace = limits_still {A = A} seen v (Err halt.NoMemory) (no_trace {A = A});
   through = λ w. no_trace {A = A};
   spent = λ k e. absurd (no_spent {A = A} k e);
+  full = λ k e. absurd (no_spent {A = A} k e);
   outside = no_outside {A = A};
 }
 
@@ -93,6 +92,7 @@ acts_answer {B} {A} seen meaning v x m = record {
   trace = limits_still {A = A} seen v (Ok x) (ok_err x halt.Trace);
   through = λ w. ok_err x halt.Trace;
   spent = λ k e. absurd (ok_err x (halt.Spent k) e);
+  full = λ k e. absurd (ok_err x (halt.Spent k) e);
   outside = ok_err x halt.Outside;
 }
 
@@ -108,6 +108,7 @@ acts_read {B} {A} {C} seen meaning a b x y f m = record {
   trace = limits_as {A = A} {C = C} seen a b x y f.trace;
   through = λ w. ok_err y halt.Trace;
   spent = λ k e. absurd (ok_err y (halt.Spent k) e);
+  full = λ k e. absurd (ok_err y (halt.Spent k) e);
   outside = ok_err y halt.Outside;
 }
 
@@ -120,6 +121,7 @@ acts_unread {B} {A} {C} seen meaning a b h f w = record {
   trace = limits_halt {A = A} {C = C} seen a b h f.trace;
   through = λ t e. f.through t (same_halt {A = A} {C = C} h halt.Trace e);
   spent = λ k e. absurd (f.spent k (same_halt {A = A} {C = C} h (halt.Spent k) e));
+  full = λ k e. absurd (f.spent k (same_halt {A = A} {C = C} h (halt.Spent k) e));
   outside = λ e. f.outside (same_halt {A = A} {C = C} h halt.Outside e);
 }
 
@@ -133,32 +135,9 @@ acts_put {B} {A} {C} seen meaning a b e x y p m = record {
   trace = limits_as {A = A} {C = C} seen a b x y p.trace;
   through = λ w. ok_err y halt.Trace;
   spent = λ k f. absurd (ok_err y (halt.Spent k) f);
+  full = λ k f. absurd (ok_err y (halt.Spent k) f);
   outside = ok_err y halt.Outside;
 }
-
-done_front : (A : Type 0) (h : Halt) (es fs : List Effect) (e : Effect) → fs ≡ done_by {A = A} (Err h) es e → IsFront fs (es ++ e ∷ [])
-done_front A halt.NoMemory es fs e d = subst (λ (l : List Effect). IsFront l (es ++ e ∷ [])) (sym d) (front_of es (e ∷ []))
-done_front A halt.Fault es fs e d = subst (λ (l : List Effect). IsFront l (es ++ e ∷ [])) (sym d) (front_of es (e ∷ []))
-done_front A halt.Outside es fs e d = subst (λ (l : List Effect). IsFront l (es ++ e ∷ [])) (sym d) (front_of es (e ∷ []))
-done_front A halt.Trace es fs e d = front_all fs (es ++ e ∷ []) d
-done_front A (halt.Spent k) es fs e d = subst (λ (l : List Effect). IsFront l (es ++ e ∷ [])) (sym d) (front_of es (e ∷ []))
-
-map_none : (o : Option WorldData) → o ≡ option_map (Applied []) o
-map_none None = refl
-map_none (Some w) = refl
-
-apply_once : (e : Effect) (o : Option WorldData) → option_map (Apply e) o ≡ option_map (Applied (e ∷ [])) o
-apply_once e None = refl
-apply_once e (Some w) = refl
-
-halted_left : {B : Type 0} (seen : B → SeenData) (a b : Viewed B) (e : Effect) → IsFront b.effects (a.effects ++ e ∷ []) → IsLeft e (seen a.base).world (seen b.base).world → Halted seen (e ∷ []) a b
-halted_left {B} seen a b e f (inl same) = record { front = f; some = []; some_front = front_none (e ∷ []); world = λ h. same ∙ map_none (seen a.base).world }
-halted_left {B} seen a b e f (inr done) = record { front = f; some = e ∷ []; some_front = front_all (e ∷ []) (e ∷ []) refl; world = λ h. done ∙ apply_once e (seen a.base).world }
-
-halted_by : {B : Type 0} (seen : B → SeenData) (a b : Viewed B) (e : Effect) (writes : Bool) → (seen a.base).writes ≡ writes → IsFront b.effects (a.effects ++ e ∷ [])
-    → (writes ≡ true → IsLeft e (seen a.base).world (seen b.base).world) → Halted seen (e ∷ []) a b
-halted_by seen a b e true w f l = halted_left seen a b e f (l refl)
-halted_by seen a b e false w f l = record { front = f; some = []; some_front = front_none (e ∷ []); world = λ h. absurd (subst T (sym h ∙ w) tt) }
 
 -- an effect that is refused
 
@@ -213,16 +192,30 @@ put_refused {B} {A} {C} seen meaning a b e r k p h m =
       refused = refused_on {A = A} seen a b e r k (seen b.base).writes (sym p.keeps.writes) p h same;
     }
 
+-- A state that a base tells has exactly the new effects.
+abbrev Exact : {B : Type 0} → (B → SeenData) → Viewed B → Viewed B → Type 0
+Exact seen a b = (made : List Effect) → b.effects ≡ a.effects ++ made → (seen b.base).world ≡ moved_by (seen a.base).writes made (seen a.base).world
+
+put_full : {B A : Type 0} (seen : B → SeenData) (a b : Viewed B) (e : Effect) (r : Result A Halt) (k : SpentKind) → Puts seen a b e r → r ≡ Err (halt.Spent k) → Exact seen a b
+put_full {B} {A} seen a b e r k p h = λ made m.
+    let same : b.effects ≡ a.effects = p.effects ∙ spent_still A k r a.effects e h in
+    let none : made ≡ [] = sym (cancel a.effects [] made (append-nil a.effects ∙ sym same ∙ m)) in
+    p.full k h ∙ moved_none (seen a.base).writes (seen a.base).world ∙ ap (λ (es : List Effect). moved_by (seen a.base).writes es (seen a.base).world) (sym none)
+
+full_then : {B A C : Type 0} (seen : B → SeenData) (a b c : Viewed B) (x : A) (r : Result C Halt) (k : SpentKind) → Keeps {H = Halt} seen a b (Ok x) → Keeps seen b c r → Exact seen b c → Exact seen a c
+full_then seen a b c x r k f l t = moved_then seen a b c f.writes f.effects l.effects f.moved t
+
 -- an effect that came to a halt
 pub acts_unput : {B A C : Type 0} (seen : B → SeenData) (meaning : WorldData → Done C) (a b : Viewed B) (e : Effect) (h : Halt) → Puts {A = A} seen a b e (Err h)
     → ((u : WorldData) → (meaning u).effects ≡ e ∷ []) → Acts seen meaning a b (Err h)
 acts_unput {B} {A} {C} seen meaning a b e h p m = record {
-  does = λ u s. subst (λ (es : List Effect). Halted seen es a b) (sym (m u)) (halted_by seen a b e (seen a.base).writes refl (done_front A h a.effects b.effects e p.effects) p.left);
+  does = λ u s. subst (λ (es : List Effect). Halted seen es a b) (sym (m u)) (put_halted A seen a b e h p.effects p.left);
   keeps = keeps_halt {A = A} seen a b h h p.keeps;
   fault = λ i. p.fault (same_halt {A = A} {C = C} h halt.Fault i);
   trace = limits_halt {A = A} {C = C} seen a b h p.trace;
   through = λ t i. p.through t (same_halt {A = A} {C = C} h halt.Trace i);
   spent = λ k i. put_refused {A = A} {C = C} seen meaning a b e (Err h) k p (same_halt {A = A} {C = C} h (halt.Spent k) i) m;
+  full = λ k i. put_full {A = A} seen a b e (Err h) k p (same_halt {A = A} {C = C} h (halt.Spent k) i);
   outside = λ i. p.outside (same_halt {A = A} {C = C} h halt.Outside i);
 }
 
@@ -241,6 +234,7 @@ acts_as {B} {A} seen m n a b r e t = record {
   trace = t.trace;
   through = t.through;
   spent = λ k h u s. subst (λ (d : Done A). Refuses seen (a.effects ++ d.effects) b k) (e u s) (t.spent k h u s);
+  full = t.full;
   outside = t.outside;
 }
 
@@ -253,6 +247,7 @@ acts_answering {B} {A} {C} seen f m a b x t = record {
   trace = limits_as {A = A} {C = C} seen a b x (f x) t.trace;
   through = λ w. ok_err (f x) halt.Trace;
   spent = λ k e. absurd (ok_err (f x) (halt.Spent k) e);
+  full = λ k e. absurd (ok_err (f x) (halt.Spent k) e);
   outside = ok_err (f x) halt.Outside;
 }
 
@@ -264,6 +259,7 @@ acts_answering_halt {B} {A} {C} seen f m a b h t = record {
   trace = limits_halt {A = A} {C = C} seen a b h t.trace;
   through = λ w e. t.through w (same_halt {A = A} {C = C} h halt.Trace e);
   spent = λ k e. t.spent k (same_halt {A = A} {C = C} h (halt.Spent k) e);
+  full = λ k e. t.full k (same_halt {A = A} {C = C} h (halt.Spent k) e);
   outside = λ e. t.outside (same_halt {A = A} {C = C} h halt.Outside e);
 }
 
@@ -314,6 +310,7 @@ acts_then {B} {A} {C} seen one rest a b c x r s t = record {
   trace = limits_then {A = A} {C = C} seen a b c x r s.keeps.writes s.trace t.trace;
   through = λ w. t.through (s.keeps.writes ∙ w);
   spent = λ k e. then_refused seen one rest a b c x r k s t.keeps (t.spent k e);
+  full = λ k e. full_then seen a b c x r k s.keeps t.keeps (t.full k e);
   outside = t.outside;
 }
 
@@ -334,6 +331,7 @@ acts_first {B} {A} {C} seen one rest a b h t = record {
   trace = limits_halt {A = A} {C = C} seen a b h t.trace;
   through = λ w e. t.through w (same_halt {A = A} {C = C} h halt.Trace e);
   spent = λ k e u s. more_refused seen (one u).effects (rest (one u).answer (Applied (one u).effects u)).effects a b k (t.spent k (same_halt {A = A} {C = C} h (halt.Spent k) e) u s);
+  full = λ k e. t.full k (same_halt {A = A} {C = C} h (halt.Spent k) e);
   outside = λ e. t.outside (same_halt {A = A} {C = C} h halt.Outside e);
 }
 
@@ -414,5 +412,6 @@ acts_read_then {B} {A} {C} seen m n a b c x r f q t = record {
   trace = limits_then {A = A} {C = C} seen a b c x r f.keeps.writes f.trace t.trace;
   through = λ w. t.through (f.keeps.writes ∙ w);
   spent = λ k e. read_refused seen m n a b c x r k f t.keeps q (t.spent k e);
+  full = λ k e. full_then seen a b c x r k f.keeps t.keeps (t.full k e);
   outside = t.outside;
 }

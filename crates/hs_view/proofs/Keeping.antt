@@ -40,7 +40,7 @@ ok_all (Err e) p = tt
 
 -- ---- what is told
 
-moved_none : (writes : Bool) (o : Option WorldData) → o ≡ moved_by writes [] o
+pub moved_none : (writes : Bool) (o : Option WorldData) → o ≡ moved_by writes [] o
 moved_none false o = refl
 moved_none true None = refl
 moved_none true (Some w) = refl
@@ -111,7 +111,7 @@ keeps_halt seen a b h i k = record {
   moved = tt;
 }
 
-moved_then : {B : Type 0} (seen : B → SeenData) (a b c : Viewed B) → (seen b.base).writes ≡ (seen a.base).writes → (ab : Grows a.effects b.effects) (bc : Grows b.effects c.effects)
+pub moved_then : {B : Type 0} (seen : B → SeenData) (a b c : Viewed B) → (seen b.base).writes ≡ (seen a.base).writes → (ab : Grows a.effects b.effects) (bc : Grows b.effects c.effects)
     → ((made : List Effect) → b.effects ≡ a.effects ++ made → (seen b.base).world ≡ moved_by (seen a.base).writes made (seen a.base).world)
     → ((made : List Effect) → c.effects ≡ b.effects ++ made → (seen c.base).world ≡ moved_by (seen b.base).writes made (seen b.base).world)
     → (made : List Effect) → c.effects ≡ a.effects ++ made → (seen c.base).world ≡ moved_by (seen a.base).writes made (seen a.base).world

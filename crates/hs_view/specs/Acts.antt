@@ -9,7 +9,7 @@ use Rattle.hs_view.specs.Known.{tables_of}
 use Rattle.hs_view.specs.Seen.{SeenData, spent_of}
 use Rattle.hs_view.specs.Size.{trace_size}
 use Rattle.hs_view.specs.Steps.{Done, Does}
-use Rattle.hs_view.specs.View.{Viewed, Keeps, Showed}
+use Rattle.hs_view.specs.View.{Viewed, Keeps, Showed, moved_by}
 use Rattle.hs_view.specs.declared.halt.Halt.{Halt}
 use Rattle.hs_view.specs.declared.halt.Halt.TheVariants as halt
 use Rattle.hs_view.specs.declared.halt.SpentKind.{SpentKind}
@@ -41,6 +41,9 @@ pub record Acts {B A : Type 0} (seen : B → SeenData) (meaning : WorldData → 
   pub through : (seen old.base).writes ≡ true → result ≢ Err halt.Trace
   -- only where the meaning's next effect is refused
   pub spent : (k : SpentKind) → result ≡ Err (halt.Spent k) → Refused seen meaning old new k
+  -- Where a limit was passed, a base that writes has exactly the new effects.
+  pub full : (k : SpentKind) → result ≡ Err (halt.Spent k) → (made : List Effect) → new.effects ≡ old.effects ++ made
+      → (seen new.base).world ≡ moved_by (seen old.base).writes made (seen old.base).world
   pub outside : result ≢ Err halt.Outside
 
 -- One part after another, where the second hangs on the answer of the first: its answer is that of both.

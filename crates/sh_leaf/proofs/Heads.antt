@@ -1,6 +1,6 @@
 -- Leaves over a base that writes.
 use Rattle.std.proofs.Common.{◌≡◌, ℕ, zero, suc, ◌+◌, Bool, T, true, List, [], ◌++◌, refl, sym, ap, ◌∙◌, subst, append-nil}
-use Rattle.std.specs.Prelude.{Option, Some, Ok, Err, IfSome, slice_get, ◌-◌}
+use Rattle.std.specs.Prelude.{Option, Some, Result, Ok, Err, IfSome, slice_get, ◌-◌}
 use native.Mathlib.Omega.{arith}
 use Rattle.hs_world.specs.World.{WorldData, Applied, passed}
 use Rattle.hs_world.specs.declared.effect.Effect.{Effect}
@@ -106,6 +106,7 @@ head_turnless seen script number fuel base w none told = record {
     },
     refl,
   );
+  full = λ k e. told;
   unfit = λ l e. let k : kind.Turns ≡ spent_of l = cc in absurd (no_limit l k);
 }
   where
@@ -153,10 +154,11 @@ head_halts {B} seen script number fuel old new h w writes none has told acts =
       world = world;
       front = record { rest = halted.front.rest; is = all ∙ halted.front.is };
       stops = λ s. absurd (no_stop_now seen m old new h w now acts shown s);
+      full = λ k e. exact k (ap Err e);
       unfit = λ l e.
           let r = acts.spent (spent_of l) (ap Err e) w shown in
           let q = refused_now seen r.next new (spent_of l) (seen new.base).writes now r.refused in
-          let p : passed r.next (Applied halted.some w) ≡ Some q.0 = unfit_now (seen new.base).world (Applied halted.some w) r.next q.0 world q.2 in
+          let p : passed r.next (Applied new.effects w) ≡ Some q.0 = unfit_now (seen new.base).world (Applied new.effects w) r.next q.0 (exact (spent_of l) (ap Err e)) q.2 in
           record {
             next = r.next;
             rest = r.rest;
@@ -179,6 +181,9 @@ head_halts {B} seen script number fuel old new h w writes none has told acts =
 
     world : (seen new.base).world ≡ Some (Applied halted.some w)
     world = halted.world writes ∙ moved_now true halted.some (seen old.base).world w refl told
+
+    exact : (k : SpentKind) → ◌≡◌ {A = Result Outcome Halt} (Err h) (Err (halt.Spent k)) → (seen new.base).world ≡ Some (Applied new.effects w)
+    exact k e = acts.full k e new.effects (ap (λ (es : List Effect). es ++ new.effects) (sym none)) ∙ moved_now (seen old.base).writes new.effects (seen old.base).world w writes told
 
     all : (state_of (leaf_under script number fuel w [])).effects ≡ old.effects ++ (m w).effects
     all = effects_under m fuel.turns w has ∙ ap (λ (es : List Effect). es ++ (m w).effects) (sym none)

@@ -9,6 +9,7 @@ use Rattle.hs_view.specs.Seen.{AskedData, SeenData, spent_of}
 use Rattle.hs_view.specs.Steps.{IsFront}
 use Rattle.hs_view.specs.declared.halt.Halt.{Halt}
 use Rattle.hs_view.specs.declared.halt.Halt.TheVariants as halt
+use Rattle.hs_view.specs.declared.halt.SpentKind.{SpentKind}
 use Rattle.sh_syntax.specs.declared.tree.Script.{Script}
 use Rattle.sh_leaf.specs.Do.{Do}
 use Rattle.sh_leaf.specs.Halting.{StopsSo, is_stop}
@@ -77,4 +78,6 @@ pub record HeadHalts (meaning : List Answer → Got Outcome) (w : WorldData) (ol
   pub front : IsFront effects (state_of (meaning (answers_in gained))).effects
   -- The leaf itself stops, and all that it did is made.
   pub stops : is_stop h ≡ true → StopsSo (meaning (answers_in gained)) effects h × (made ≡ effects)
-  pub unfit : (l : Limit) → h ≡ halt.Spent (spent_of l) → IsUnfit (meaning (answers_in gained)) effects (Applied made w) l
+  -- Where a limit is passed, the told state has exactly the effects that are handed back.
+  pub full : (k : SpentKind) → h ≡ halt.Spent k → new.world ≡ Some (Applied effects w)
+  pub unfit : (l : Limit) → h ≡ halt.Spent (spent_of l) → IsUnfit (meaning (answers_in gained)) effects (Applied effects w) l
