@@ -12,7 +12,7 @@ folder=$(mktemp -d) || exit 1
 trap 'rm -r "$folder"' EXIT
 measuring
 
-head -c 100000000 /dev/zero | tr '\0' a >"$folder/f0"
+yes "$(printf 'one two\tthree four,five six seven\teight nine,ten eleven twelve.')" | head -c 100000000 >"$folder/f0"
 best_of "$program" run 1 100000000 ''
 without=$best
 best_of "$program" run 1 100000000 'cat f0'

@@ -67,13 +67,18 @@ fn put(alloc: Global, tree: &mut Tree, place: u32, text: &Text) -> bool {
     }
 }
 
-/// A text of so many bytes, in lines of 64.
+/// A line of 64 bytes, with spaces, tabs and commas.
+const LINE: &[u8] = b"one two\tthree four,five six seven\teight nine,ten eleven twelve.\n";
+
+/// A text of so many bytes: a front of one line, again and again.
 fn lines(alloc: Global, size: u32) -> Result<Text, AllocError> {
-    let mut bytes = vec![in alloc; b'a'; size as usize]?;
-    let mut place = 63;
-    while place < bytes.len() {
-        bytes[place] = b'\n';
-        place += 64;
+    let mut left = size as usize;
+    let mut bytes = Vec::new(alloc);
+    bytes.reserve(left)?;
+    while left > 0 {
+        let count = left.min(LINE.len());
+        bytes.extend_from_slice(&LINE[..count])?;
+        left -= count;
     }
     Text::from_vec(alloc, bytes)
 }
