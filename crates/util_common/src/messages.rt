@@ -16,12 +16,17 @@ pub enum Why {
     NoSuchFolder,
     BadNumber,
     BadList,
+    BadSet,
+    BadFormat,
+    BadExpression,
     UnknownOption(u8),
     NeedsValue(u8),
     /// Two options that may not stand together.
     Excluding,
     MissingOperand,
     ExtraOperand,
+    /// Patterns that are not fixed strings.
+    OnlyFixed,
 }
 
 /// Puts the cause at the end of a message.
@@ -36,6 +41,9 @@ fn push_why(text: &mut Text, why: Why) -> Result<(), AllocError>
         Why::NoSuchFolder => text.extend(b"no such folder"),
         Why::BadNumber => text.extend(b"bad number"),
         Why::BadList => text.extend(b"bad list"),
+        Why::BadSet => text.extend(b"bad set"),
+        Why::BadFormat => text.extend(b"bad format"),
+        Why::BadExpression => text.extend(b"bad expression"),
         Why::UnknownOption(byte) => {
             text.extend(b"unknown option -")?;
             text.extend(&[byte])
@@ -48,6 +56,7 @@ fn push_why(text: &mut Text, why: Why) -> Result<(), AllocError>
         Why::Excluding => text.extend(b"options exclude each other"),
         Why::MissingOperand => text.extend(b"missing operand"),
         Why::ExtraOperand => text.extend(b"extra operand"),
+        Why::OnlyFixed => text.extend(b"only -F"),
     }
 }
 
