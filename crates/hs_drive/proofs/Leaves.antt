@@ -38,7 +38,7 @@ append-nil : (es : List Effect) → es ++ [] ≡ es
 append-nil [] = refl
 append-nil (e ∷ es) = ap (λ (xs : List Effect). e ∷ xs) (append-nil es)
 
-abbrev with_one : ℕ → (WorldData → Done Outcome) → State → Got Outcome
+abbrev pub with_one : ℕ → (WorldData → Done Outcome) → State → Got Outcome
 with_one n m σ = with_turn n (λ τ. did (m τ.world) τ) σ
 
 on-turns : (n : ℕ) (m : WorldData → Done Outcome) (σ : State) → with_one n m σ ≡ onto σ (with_one n m (begin σ.world σ.turns []))
@@ -79,11 +79,11 @@ record-valid r w these holds tree passes same = subst (λ (es : List Effect). Al
 
 -- ---- a leaf that came to a halt
 
-front-valid : (es rest : List Effect) (w : WorldData) → AllValid (es ++ rest) w → AllValid es w
+pub front-valid : (es rest : List Effect) (w : WorldData) → AllValid (es ++ rest) w → AllValid es w
 front-valid [] rest w h = tt
 front-valid (e ∷ es) rest w h = (h.0, front-valid es rest (Apply e w) h.1)
 
-got-valid : (n : ℕ) (m : WorldData → Done Outcome) (w : WorldData) → AllValid (m w).effects w → AllValid (state_of (with_one n m (begin w n []))).effects w
+pub got-valid : (n : ℕ) (m : WorldData → Done Outcome) (w : WorldData) → AllValid (m w).effects w → AllValid (state_of (with_one n m (begin w n []))).effects w
 got-valid zero m w h = tt
 got-valid (suc n) m w h = h
 
@@ -94,7 +94,7 @@ halted-valid script number turns reads effects h w tree passes halts =
     let p = slice_get script.leaves number in
     front-valid effects front.rest w (subst (λ (es : List Effect). AllValid es w) front.is (got-valid turns (leaf_done p) w (leaf_valid p w)))
 
-wants : (out err : Type 0) (script : Script) (k : ℕ) (w w' : WorldData) (turns turns' : ℕ) (s t : Streams) (effects : List Effect) → IsFront effects (state_of (leaf_got script k w turns)).effects
+pub wants : (out err : Type 0) (script : Script) (k : ℕ) (w w' : WorldData) (turns turns' : ℕ) (s t : Streams) (effects : List Effect) → IsFront effects (state_of (leaf_got script k w turns)).effects
     → IsCommitted effects w w' s t → LeafRuns out err script k w w' turns turns' s t (Err stop.NoMemory)
 wants out err script k w w' turns turns' s t effects front c = inl (effects, front, inl c)
 
@@ -109,25 +109,25 @@ spent-by got w w' s t effects k (Ran_out j) state e h same c = record {
 }
 spent-by got w w' s t effects k (Asks request) state e h same c = let bad : halt.Spent k ≡ halt.Outside = h in absurd cc
 
-spent : (out err : Type 0) (script : Script) (number : ℕ) (w w' : WorldData) (turns turns' : ℕ) (s t : Streams) (effects : List Effect) (k : SpentKind) → StopsSo (leaf_got script number w turns) effects (halt.Spent k)
+pub spent : (out err : Type 0) (script : Script) (number : ℕ) (w w' : WorldData) (turns turns' : ℕ) (s t : Streams) (effects : List Effect) (k : SpentKind) → StopsSo (leaf_got script number w turns) effects (halt.Spent k)
     → IsCommitted effects w w' s t → LeafRuns out err script number w w' turns turns' s t (Err (stop.Spent k))
 spent out err script number w w' turns turns' s t effects k so c = inr (spent-by (leaf_got script number w turns) w w' s t effects k so.stop so.state so.is so.halt_is so.effects_are c)
 
-pub halted-stops : (out err : Type 0) (script : Script) (number : ℕ) (w w' : WorldData) (turns turns' : ℕ) (s t : Streams) (reads : ReadList) (effects : List Effect) (h : Halt) → h ≢ halt.Fault → h ≢ halt.Outside → h ≢ halt.Spent kind.Tree
+pub halted-stops : (out err : Type 0) (script : Script) (number : ℕ) (w w' : WorldData) (turns turns' : ℕ) (s t : Streams) (reads : ReadList) (effects : List Effect) (h : Halt) → h ≢ halt.Fault → h ≢ halt.Outside → h ≢ halt.Spent kind.Tree → h ≢ halt.Spent kind.Bytes
     → IsTree w.tree → Passes reads w → Halts (λ v. leaf_got script number v turns) reads effects h → IsCommitted effects w w' s t → LeafRuns out err script number w w' turns turns' s t (Err (stop_of h))
-halted-stops out err script number w w' turns turns' s t reads effects halt.NoMemory f o x tree passes halts c = wants out err script number w w' turns turns' s t effects (halts.front w tree passes) c
-halted-stops out err script number w w' turns turns' s t reads effects halt.Fault f o x tree passes halts c = absurd (f refl)
-halted-stops out err script number w w' turns turns' s t reads effects halt.Outside f o x tree passes halts c = absurd (o refl)
-halted-stops out err script number w w' turns turns' s t reads effects halt.Trace f o x tree passes halts c = wants out err script number w w' turns turns' s t effects (halts.front w tree passes) c
-halted-stops out err script number w w' turns turns' s t reads effects (halt.Spent kind.Turns) f o x tree passes halts c = spent out err script number w w' turns turns' s t effects kind.Turns (halts.stops refl w tree passes) c
-halted-stops out err script number w w' turns turns' s t reads effects (halt.Spent kind.Bytes) f o x tree passes halts c = wants out err script number w w' turns turns' s t effects (halts.front w tree passes) c
-halted-stops out err script number w w' turns turns' s t reads effects (halt.Spent kind.Frames) f o x tree passes halts c = spent out err script number w w' turns turns' s t effects kind.Frames (halts.stops refl w tree passes) c
-halted-stops out err script number w w' turns turns' s t reads effects (halt.Spent kind.Tree) f o x tree passes halts c = absurd (x refl)
+halted-stops out err script number w w' turns turns' s t reads effects halt.NoMemory f o x b tree passes halts c = wants out err script number w w' turns turns' s t effects (halts.front w tree passes) c
+halted-stops out err script number w w' turns turns' s t reads effects halt.Fault f o x b tree passes halts c = absurd (f refl)
+halted-stops out err script number w w' turns turns' s t reads effects halt.Outside f o x b tree passes halts c = absurd (o refl)
+halted-stops out err script number w w' turns turns' s t reads effects halt.Trace f o x b tree passes halts c = wants out err script number w w' turns turns' s t effects (halts.front w tree passes) c
+halted-stops out err script number w w' turns turns' s t reads effects (halt.Spent kind.Turns) f o x b tree passes halts c = spent out err script number w w' turns turns' s t effects kind.Turns (halts.stops refl w tree passes) c
+halted-stops out err script number w w' turns turns' s t reads effects (halt.Spent kind.Bytes) f o x b tree passes halts c = absurd (b refl)
+halted-stops out err script number w w' turns turns' s t reads effects (halt.Spent kind.Frames) f o x b tree passes halts c = spent out err script number w w' turns turns' s t effects kind.Frames (halts.stops refl w tree passes) c
+halted-stops out err script number w w' turns turns' s t reads effects (halt.Spent kind.Tree) f o x b tree passes halts c = absurd (x refl)
 
-pub halted-why : (out err : Type 0) (script : Script) (number : ℕ) (w w' : WorldData) (turns turns' : ℕ) (s t : Streams) (reads : ReadList) (effects : List Effect) (h : Halt) (why : Stop) → h ≢ halt.Fault → h ≢ halt.Outside → h ≢ halt.Spent kind.Tree
+pub halted-why : (out err : Type 0) (script : Script) (number : ℕ) (w w' : WorldData) (turns turns' : ℕ) (s t : Streams) (reads : ReadList) (effects : List Effect) (h : Halt) (why : Stop) → h ≢ halt.Fault → h ≢ halt.Outside → h ≢ halt.Spent kind.Tree → h ≢ halt.Spent kind.Bytes
     → why ≡ stop_of h → IsTree w.tree → Passes reads w → Halts (λ v. leaf_got script number v turns) reads effects h → IsCommitted effects w w' s t → LeafRuns out err script number w w' turns turns' s t (Err why)
-halted-why out err script number w w' turns turns' s t reads effects h why f o x is tree passes halts c =
-    subst (λ (y : Stop). LeafRuns out err script number w w' turns turns' s t (Err y)) (sym is) (halted-stops out err script number w w' turns turns' s t reads effects h f o x tree passes halts c)
+halted-why out err script number w w' turns turns' s t reads effects h why f o x b is tree passes halts c =
+    subst (λ (y : Stop). LeafRuns out err script number w w' turns turns' s t (Err y)) (sym is) (halted-stops out err script number w w' turns turns' s t reads effects h f o x b tree passes halts c)
 
 pub halted-fails : (out err : Type 0) (script : Script) (number : ℕ) (w w' : WorldData) (turns turns' : ℕ) (s t : Streams) (reads : ReadList) (effects these : List Effect) (h : Halt) (why : Stop) → these ≡ effects
     → IsTree w.tree → Passes reads w → Halts (λ v. leaf_got script number v turns) reads effects h → Commits out err these w w' s t (Err why) → LeafRuns out err script number w w' turns turns' s t (Err why)
@@ -141,7 +141,7 @@ halted-fails out err script number w w' turns turns' s t reads effects these h w
 pub no-fault : Rose 0 0 → ⊥
 no-fault h = omega (arith, h)
 
-never-asks : (n : ℕ) (m : WorldData → Done Outcome) (w : WorldData) (why : LeafStop) (state : State) → with_one n m (begin w n []) ≡ Ends why state → halt.Outside ≡ halt_of why → ⊥
+pub never-asks : (n : ℕ) (m : WorldData → Done Outcome) (w : WorldData) (why : LeafStop) (state : State) → with_one n m (begin w n []) ≡ Ends why state → halt.Outside ≡ halt_of why → ⊥
 never-asks zero m w why state e h = let same : Ran_out kind.Turns ≡ why = cc in let bad : halt.Outside ≡ halt.Spent kind.Turns = h ∙ ap halt_of (sym same) in absurd cc
 never-asks (suc n) m w why state e h = let bad : Gave (m w).answer (make (m w).effects (begin w n [])) ≡ Ends why state = e in absurd cc
 

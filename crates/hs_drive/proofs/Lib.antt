@@ -1,3 +1,4 @@
 pub mod Commits
 pub mod Leaves
 pub mod Runs
+pub mod Turns

@@ -6,7 +6,6 @@ use Rattle.hs_view.specs.Steps.{IsFront}
 use Rattle.hs_view.specs.declared.halt.Halt.{Halt}
 use Rattle.hs_view.specs.declared.halt.Halt.TheVariants as halt
 use Rattle.hs_view.specs.declared.halt.SpentKind.{SpentKind}
-use Rattle.hs_view.specs.declared.halt.SpentKind.TheVariants as kind
 use Rattle.sh_syntax.specs.declared.tree.Script.{Script}
 use Rattle.sh_leaf.specs.Cut.{Row, Serial}
 use Rattle.sh_leaf.specs.Do.{Do, most_frames, most_nested}
@@ -88,9 +87,8 @@ leaf_got script k w turns = Do script most_nested most_frames k (begin w turns [
 abbrev pub LeafRuns : (out err : Type 0) → Script → ℕ → (w w' : WorldData) → (turns turns' : ℕ) → Streams → Streams → Result Outcome Stop → Type 0
 LeafRuns out err script k w w' turns turns' old new result = GotRuns out err (leaf_got script k w turns) w w' turns' 0 old new result
 
--- Why a run stops where a leaf came to a halt. A text of more than 268,435,456 bytes or a trace of more than 2^64 - 1 is want of memory.
+-- Why a run stops where a leaf that ran ahead came to a halt. A trace of more than 2^64 - 1 bytes is want of memory.
 abbrev pub stop_of : Halt → Stop
-stop_of (halt.Spent kind.Bytes) = stop.NoMemory
 stop_of (halt.Spent kind) = stop.Spent kind
 stop_of _ = stop.NoMemory
 

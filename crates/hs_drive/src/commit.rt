@@ -20,7 +20,8 @@ pub enum Stop {
     NoMemory,
 }
 
-fn kind_of(limit: Limit) -> SpentKind
+/// What is used up where a limit is passed.
+pub fn kind_of(limit: Limit) -> SpentKind
     ensures { result ≡ spent_of limit }
 {
     match limit {

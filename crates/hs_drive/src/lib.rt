@@ -5,6 +5,7 @@
 mod commit;
 mod ending;
 mod run;
+mod written;
 
 pub use commit::{Stop, commit_all};
 pub use ending::{Ending, Report, syntax_line};

@@ -18,6 +18,8 @@ ghost use Rattle.sh_syntax.specs.declared.tree.Script.{Script};
 ghost use Rattle.hs_drive.specs.Commit.{Streams};
 ghost use Rattle.hs_drive.specs.Plain.{GotRuns, IsComplete, LeafRuns, Runs, ending_of, leaf_got, stop_of};
 
+mod turn;
+
 use crate::commit::{Stop, commit_all};
 use crate::ending::{Ending, Report};
 use hs_outside::{Host, Sink};
@@ -27,6 +29,7 @@ use sh_leaf::{Fuel, Outcome, Record, do_leaf};
 use sh_syntax::{AndOr, Script};
 use std::alloc::Global;
 use std::sync::Arc;
+use turn::run_in_turn;
 
 /// The most compound commands and calls of a leaf that may be begun in one another.
 const FRAMES: u32 = 2_000;
@@ -96,13 +99,16 @@ fn stop_of(halt: Halt) -> Stop
     requires fault { halt ≢ Halt.Fault }
     requires outside { halt ≢ Halt.Outside }
     requires tree { halt ≢ Halt.Spent SpentKind.Tree }
+    requires bytes { halt ≢ Halt.Spent SpentKind.Bytes }
     ensures { result ≡ stop_of halt }
 {
     match halt {
         Halt::Spent(SpentKind::Turns) => Stop::Spent(SpentKind::Turns),
         Halt::Spent(SpentKind::Frames) => Stop::Spent(SpentKind::Frames),
-        Halt::Spent(SpentKind::Bytes) | Halt::Trace | Halt::NoMemory => Stop::NoMemory,
-        Halt::Spent(SpentKind::Tree) | Halt::Fault | Halt::Outside => unreachable!(),
+        Halt::Trace | Halt::NoMemory => Stop::NoMemory,
+        Halt::Spent(SpentKind::Bytes | SpentKind::Tree) | Halt::Fault | Halt::Outside => {
+            unreachable!()
+        }
     }
 }
 
@@ -117,6 +123,7 @@ fn commit_halted<O: Sink, E: Sink>(
     requires fault { halt ≢ Halt.Fault }
     requires outside { halt ≢ Halt.Outside }
     requires tree { halt ≢ Halt.Spent SpentKind.Tree }
+    requires bytes { halt ≢ Halt.Spent SpentKind.Bytes }
     requires valid { AllValid trace.effects run.world }
     ensures runs { (script : Script) (number : ℕ) → IsTree run.world.tree → Passes trace.reads run.world → Halts (λ w. leaf_got script number w run.turns) trace.reads trace.effects halt
         → LeafRuns (Rose (O.faults out.old) (O.faults out.new)) (Rose (E.faults err.old) (E.faults err.new)) script number run.world result.0.world run.turns result.0.turns
@@ -135,7 +142,8 @@ fn commit_halted<O: Sink, E: Sink>(
     }
 }
 
-/// Does one leaf: it is run ahead over the committed state, and what it did is committed then.
+/// Does one leaf: it is run ahead over the committed state, and what it did is committed then. Where a text of it is too long
+/// to be kept among what it does, it is done again, in its turn.
 fn run_leaf<O: Sink, E: Sink>(
     alloc: Global,
     script: &Arc<Script>,
@@ -165,7 +173,12 @@ fn run_leaf<O: Sink, E: Sink>(
         }
         Err((base, halt, trace)) => {
             let world = base.into_world();
-            commit_halted(halt, trace, Run { world, turns, head }, out, err)
+            let run = Run { world, turns, head };
+            if halt == Halt::Spent(SpentKind::Bytes) {
+                drop(trace);
+                return run_in_turn(alloc, script, number, run, out, err);
+            }
+            commit_halted(halt, trace, run, out, err)
         }
     }
 }

@@ -6,7 +6,7 @@ use Rattle.hs_drive.proofs.run.commit_halted.Goals as goal
 
 pub returns-in-Ok-clause-runs : goal.returns-in-Ok-clause-runs
 returns-in-Ok-clause-runs g c = λ script number tree passes halts.
-    halted-why _ _ script number _ _ _ 0 _ _ _ _ _ _ c.requires.fault c.requires.outside c.requires.tree c.stop_of.ensures tree passes halts (rw c.effects.ensures at (rw c.as_slice.ensures at c.in-Ok.ensures.commits))
+    halted-why _ _ script number _ _ _ 0 _ _ _ _ _ _ c.requires.fault c.requires.outside c.requires.tree c.requires.bytes c.stop_of.ensures tree passes halts (rw c.effects.ensures at (rw c.as_slice.ensures at c.in-Ok.ensures.commits))
 
 pub returns-in-Err-clause-runs : goal.returns-in-Err-clause-runs
 returns-in-Err-clause-runs g c = λ script number tree passes halts.

@@ -26,8 +26,15 @@ commit_halted-requires-clause-tree g c =
     let told = c.in-Err.ensures.told_halted c.args.run.world (ap Some c.new.ensures) in
     λ e. c.in-Err.ensures.halts.tree e c.args.run.world c.in_folders.ensures told.1
 
-pub returns-in-Err-clause-runs : goal.returns-in-Err-clause-runs
-returns-in-Err-clause-runs g c =
+pub returns-then-eq-clause-runs : goal.returns-then-eq-clause-runs
+returns-then-eq-clause-runs g c =
+    let told = c.in-Err.ensures.told_halted c.args.run.world (ap Some c.new.ensures) in
+    let back = world-back _ _ _ told.0 c.into_world-world-in-Err.ensures in
+    leaf-as _ _ (arc_value c.args.script.now) (arc_value c.args.script.now) c.args.number c.args.number c.into_world-world-in-Err.result c.args.run.world c.run_in_turn.result.0.world c.args.run.turns
+    c.run_in_turn.result.0.turns _ _ c.run_in_turn.result.1 refl refl back c.run_in_turn.ensures.runs
+
+pub returns-else-eq-clause-runs : goal.returns-else-eq-clause-runs
+returns-else-eq-clause-runs g c =
     let told = c.in-Err.ensures.told_halted c.args.run.world (ap Some c.new.ensures) in
     let back = world-back _ _ _ told.0 c.into_world-world-in-Err.ensures in
     leaf-as _ _ (arc_value c.args.script.now) (arc_value c.args.script.now) c.args.number c.args.number c.into_world-world-in-Err.result c.args.run.world c.commit_halted.result.0.world c.args.run.turns
