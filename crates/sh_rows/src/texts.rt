@@ -80,7 +80,10 @@ fn compound_commands_are_read(rt: HostRuntime) -> Result<(), Fail> {
         ("if (a) then b\nfi | c", 4),
         ("while a; do b; done; until a; do b; done", 6),
         ("while { a; }; do\nb; c; done <f", 5),
-        ("for x in a \"$@\"; do b; done; for x; do b; done; for x\ndo b; done", 6),
+        (
+            "for x in a \"$@\"; do b; done; for x; do b; done; for x\ndo b; done",
+            6,
+        ),
         ("for x do a; done", 2),
         ("for x in; do a; done", 2),
         ("for in\n\nin in;\ndo a; done", 2),
