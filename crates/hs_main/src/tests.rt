@@ -98,6 +98,17 @@ fn done<'a>(words: &'a [&'a [u8]], out: &'a [u8]) -> Row<'a> {
     }
 }
 
+/// The script ends with status 1 and a message.
+fn told<'a>(words: &'a [&'a [u8]], err: &'a [u8]) -> Row<'a> {
+    Row {
+        words,
+        out: b"",
+        err,
+        ending: Ending::Done(1),
+        status: 1,
+    }
+}
+
 fn unbuilt<'a>(words: &'a [&'a [u8]]) -> Row<'a> {
     Row {
         words,
@@ -128,6 +139,15 @@ fn rows(rt: HostRuntime) -> Result<(), Fail> {
         done(&[b"-c", b"\n\necho\n"], b"\n"),
         done(&[b"-c", b"echo \"a  b\" c\\ d # e"], b"a  b c d\n"),
         done(&[b"-c", b"echo \"\\$x\" '*'\necho a\\\nb"], b"$x *\nab\n"),
+        done(&[b"-c", b"tee t; tee -a t; cat t; wc t"], b"0 0 0 t\n"),
+        told(&[b"-c", b"cat f"], b"hs: cat: f: no such file\n"),
+        told(&[b"-c", b"cut -b 1 f"], b"hs: cut: f: no such file\n"),
+        told(&[b"-c", b"fold f"], b"hs: fold: f: no such file\n"),
+        told(&[b"-c", b"head -n 1 f"], b"hs: head: f: no such file\n"),
+        told(&[b"-c", b"tail -n 1 f"], b"hs: tail: f: no such file\n"),
+        told(&[b"-c", b"tee /"], b"hs: tee: /: is a folder\n"),
+        told(&[b"-c", b"wc f"], b"hs: wc: f: no such file\n"),
+        unbuilt(&[b"-c", b"'cat' f"]),
         unbuilt(&[b"-c", b"echo $x"]),
         refused(&[b"-c", b"echo 'a"], Fault::Unclosed(Opening::Single)),
         refused(&[b"-c", b"; echo a"], Fault::Unexpected),
@@ -397,31 +417,40 @@ fn writes(
     }
 }
 
-/// Whether `cat` writes the file of a host, and tells that the folder is none.
-fn cats(alloc: Global, tree: Tree) -> bool {
+/// Each utility that reads files.
+const READING: &[u8] =
+    b"head -n 1 f f; tail -n 1 f; tail -n +2 f; wc f f; cut -b 1 f; cut -d b -f 1 f; fold -w 1 f";
+
+/// What they write where `f` has the lines `ab` and `c`.
+const READ: &[u8] =
+    b"==> f <==\nab\n\n==> f <==\nab\nc\nc\n2 2 5 f\n2 2 5 f\n4 4 10 total\na\nc\na\nc\na\nb\nc\n";
+
+/// Whether utilities read the file of a host, and `cat` tells that the folder is none.
+fn reads(alloc: Global, tree: Tree) -> bool {
     match MemoryHost::new(tree, Vec::new(alloc)) {
         Ok(mut host) => {
             let told = b"hs: cat: d: is a folder\n";
-            writes(alloc, &mut host, b"cat f; cat f f", b"x\nx\nx\n", b"", 0)
+            writes(alloc, &mut host, b"cat f f", b"ab\nc\nab\nc\n", b"", 0)
                 && writes(alloc, &mut host, b"cat d", b"", told, 1)
-                && writes(alloc, &mut host, b"cat d f", b"x\n", told, 1)
+                && writes(alloc, &mut host, b"cat d f", b"ab\nc\n", told, 1)
+                && writes(alloc, &mut host, READING, READ, b"", 0)
         }
         Err(_) => false,
     }
 }
 
-fn cats_a_file(alloc: Global) -> bool {
+fn reads_a_file(alloc: Global) -> bool {
     let mut tree = Tree::new(alloc);
-    let Ok(text) = Text::from_slice(alloc, b"x\n") else {
+    let Ok(text) = Text::from_slice(alloc, b"ab\nc\n") else {
         return false;
     };
     put_entry(alloc, &mut tree, "f", Entry::File(text)).is_ok()
         && put_entry(alloc, &mut tree, "d", Entry::Dir).is_ok()
-        && cats(alloc, tree)
+        && reads(alloc, tree)
 }
 
 #[test]
-fn files_are_written_and_folders_are_not(rt: HostRuntime) -> Result<(), Fail> {
-    assert!(rt; cats_a_file(rt.alloc()));
+fn files_are_read_and_folders_are_not(rt: HostRuntime) -> Result<(), Fail> {
+    assert!(rt; reads_a_file(rt.alloc()));
     Ok(())
 }

@@ -1,6 +1,6 @@
 -- The meaning computed on small scripts.
 use Rattle.std.proofs.Common.{◌≡◌, ℕ, List, [], ◌∷◌, refl}
-use Rattle.std.specs.Prelude.{codes, true, false}
+use Rattle.std.specs.Prelude.{codes, true, false, Some, None}
 use Rattle.std.specs.FinMap.{empty}
 use Rattle.hs_world.specs.declared.effect.Effect.{Effect}
 use Rattle.hs_world.specs.declared.effect.Effect.TheVariants.{Emit, SetInput, SetStatus}
@@ -19,7 +19,9 @@ use Rattle.sh_leaf.specs.Do.{Do, most_frames, most_nested}
 use Rattle.sh_leaf.specs.Fields.{field}
 use Rattle.sh_leaf.specs.Run.{Done, Stopped, whole_run}
 use Rattle.sh_leaf.specs.State.{Ends, Gave, Ran_out, begin, make, state_of}
+use Rattle.sh_leaf.specs.Utilities.{named}
 use Rattle.sh_leaf.specs.declared.outcome.Outcome.TheVariants.{Status}
+use Rattle.sh_leaf.specs.declared.utility.Utility.TheVariants.{Wc}
 
 -- standard input has `in` and a newline
 abbrev w₀ : WorldData
@@ -111,6 +113,18 @@ no_path = refl
 no_words : command [] w₀ ≡ record { effects = SetStatus 0 ∷ []; answer = Status 0 }
 no_words = refl
 
+first_lines : (command (codes "head" ∷ []) w₀).effects ≡ SetInput [] ∷ Emit One (codes "in\n") ∷ SetStatus 0 ∷ []
+first_lines = refl
+
+no_utility : command (codes "ls" ∷ []) w₀ ≡ record { effects = SetStatus 127 ∷ []; answer = Status 127 }
+no_utility = refl
+
+last_name : named (codes "wc") ≡ Some Wc
+last_name = refl
+
+longer_name : named (codes "wcs") ≡ None
+longer_name = refl
+
 quotes_removed : field (record { parts = Plain (codes "a") ∷ Single (codes " b") ∷ Escaped 42 ∷ [] }) ≡ codes "a b*"
 quotes_removed = refl
 
@@ -121,6 +135,9 @@ two_is_built = refl
 
 option_is_built : is_built (one (plain (codes "cat") ∷ plain (codes "-n") ∷ [])) ≡ true
 option_is_built = refl
+
+utility_is_built : is_built (one (plain (codes "head") ∷ plain (codes "-n") ∷ plain (codes "1") ∷ plain (codes "f") ∷ [])) ≡ true
+utility_is_built = refl
 
 other_name_is_not : is_built (one (plain (codes "pwd") ∷ [])) ≡ false
 other_name_is_not = refl

@@ -1,7 +1,6 @@
--- Which scripts are built: commands `echo` and `cat` one after another, whose words need no expansion.
-use Rattle.std.specs.Prelude.{ℕ, Bool, true, false, not, ◌&&◌, ◌||◌, List, [], ◌∷◌, nat_eq, codes}
+-- Which scripts are built: commands one after another, each of a utility that is built, whose words need no expansion.
+use Rattle.std.specs.Prelude.{ℕ, Bool, true, false, not, ◌&&◌, ◌||◌, List, [], ◌∷◌, nat_eq, is_some}
 use Rattle.std.specs.List.{list_all, list_any}
-use Rattle.std.specs.Cmp.Lexicographic.{pointwise}
 use Rattle.sh_syntax.specs.declared.tree.Part.{Part, out-Part}
 use Rattle.sh_syntax.specs.declared.tree.Part.TheOpen as open_part
 use Rattle.sh_syntax.specs.declared.tree.Part.{Plain, Single, Escaped}
@@ -12,6 +11,7 @@ use Rattle.sh_syntax.specs.declared.tree.Pipeline.{Pipeline}
 use Rattle.sh_syntax.specs.declared.tree.AndOr.{AndOr}
 use Rattle.sh_syntax.specs.declared.tree.List as tree
 use Rattle.sh_syntax.specs.declared.tree.Script.{Script}
+use Rattle.sh_leaf.specs.Utilities.{named}
 
 abbrev pub is_none : {A : Type 0} → List A → Bool
 is_none [] = true
@@ -36,7 +36,7 @@ abbrev pub is_built_word : Word → Bool
 is_built_word word = list_all is_built_part word.parts
 
 abbrev pub is_known_part : Part → Bool
-is_known_part (Plain bytes) = pointwise nat_eq bytes (codes "echo") || pointwise nat_eq bytes (codes "cat")
+is_known_part (Plain bytes) = is_some (named bytes)
 is_known_part _ = false
 
 abbrev pub is_known_name : List Part → Bool
@@ -44,7 +44,7 @@ is_known_name [] = false
 is_known_name (p ∷ []) = is_known_part p
 is_known_name (_ ∷ _ ∷ _) = false
 
--- The first word is written `echo` or `cat`.
+-- The first word is written plain, and is the name of a utility.
 abbrev pub is_known : List Word → Bool
 is_known [] = false
 is_known (name ∷ args) = is_known_name name.parts

@@ -1,6 +1,5 @@
--- What a simple command does (POSIX.1-2017, XCU 2.9.1), where nothing is expanded. `echo` and `cat` are the commands that are built.
-use Rattle.std.specs.Prelude.{ℕ, List, [], ◌∷◌, Option, Some, None, if◌then◌else◌, nat_eq, codes}
-use Rattle.std.specs.Cmp.Lexicographic.{pointwise}
+-- What a simple command does (POSIX.1-2017, XCU 2.9.1), where nothing is expanded.
+use Rattle.std.specs.Prelude.{ℕ, List, [], ◌∷◌, Option, Some, None}
 use Rattle.hs_world.specs.World.{WorldData}
 use Rattle.hs_world.specs.declared.effect.Effect.TheVariants.{SetStatus}
 use Rattle.hs_view.specs.Acts.{only, then_by}
@@ -9,9 +8,8 @@ use Rattle.sh_syntax.specs.declared.tree.Command.{Command}
 use Rattle.sh_syntax.specs.declared.tree.Command.TheVariants.{Simple}
 use Rattle.sh_syntax.specs.declared.tree.Pipeline.{Pipeline}
 use Rattle.sh_syntax.specs.declared.tree.Word.{Word}
-use Rattle.util_print.specs.Echo.{echo}
-use Rattle.util_text.specs.Cat.{cat}
 use Rattle.sh_leaf.specs.Fields.{fields}
+use Rattle.sh_leaf.specs.Utilities.{found, named}
 use Rattle.sh_leaf.specs.declared.outcome.Outcome.{Outcome}
 use Rattle.sh_leaf.specs.declared.outcome.Outcome.TheVariants.{Status}
 
@@ -22,9 +20,9 @@ set_status status w = only (SetStatus status) (Status status) w
 abbrev pub with_status : Done ℕ → WorldData → Done Outcome
 with_status d w = then_by d set_status w
 
--- the utility of a name: `cat`, or `echo`, which is each other name that is built
+-- the utility of a name
 abbrev pub utility : List ℕ → List (List ℕ) → WorldData → Done ℕ
-utility name args w = if pointwise nat_eq name (codes "cat") then cat args w else echo args w
+utility name args w = found (named name) args w
 
 -- The name comes first, then its arguments; no name has status 0.
 abbrev pub command : List (List ℕ) → WorldData → Done Outcome

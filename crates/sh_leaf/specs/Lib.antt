@@ -8,3 +8,4 @@ pub mod Head
 pub mod Record
 pub mod Run
 pub mod State
+pub mod Utilities

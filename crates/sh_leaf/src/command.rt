@@ -6,15 +6,15 @@ ghost use Rattle.sh_leaf.specs.Command.{command, leaf_done, leaf_words, set_stat
 ghost use Rattle.sh_leaf.specs.Fields.{field, fields};
 
 use crate::outcome::Outcome;
+use crate::utility::named;
 use crate::words::{field, fields};
 use hs_text::{Text, TextList};
 use hs_view::{Base, Halt, View};
 use hs_world::Effect;
 use sh_syntax::{Command, Script, Word};
 use std::alloc::Global;
-use util_print::echo;
-use util_text::cat;
 
+/// Runs the utility of this name.
 fn run_utility<B: Base>(
     alloc: Global,
     name: &Text,
@@ -23,10 +23,9 @@ fn run_utility<B: Base>(
 ) -> Result<u8, Halt>
     ensures { Acts B.seen (utility name.now args.now) view.old view.new result }
 {
-    if name.as_slice() == b"cat".as_slice() {
-        cat(alloc, args, view)
-    } else {
-        echo(alloc, args, view)
+    match named(name.as_slice()) {
+        Some(utility) => utility.run(alloc, args, view),
+        None => Ok(127),
     }
 }
 

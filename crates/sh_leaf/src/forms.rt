@@ -4,6 +4,7 @@ ghost use Rattle.std.specs.Prelude.{◌≡◌};
 ghost use Rattle.std.specs.List.{list_all, list_any};
 ghost use Rattle.sh_leaf.specs.Built.{is_alone, is_built, is_built_command, is_built_part, is_built_pipeline, is_built_word, is_inner, is_known, is_known_name, is_known_part, is_sequence, is_special, is_unjoined};
 
+use crate::utility::named;
 use sh_syntax::{AndOr, Command, List, Part, Pipeline, Script, Word};
 
 fn is_special(byte: u8) -> bool
@@ -55,14 +56,12 @@ fn are_built_words(words: &[Word]) -> bool
     words.iter().all(|word| is_built_word(word))
 }
 
-/// Whether this part writes the name of a utility that is built.
+/// Whether this part is the plain name of a utility that is built.
 fn is_known_part(part: &Part) -> bool
     ensures { result ≡ is_known_part part.now }
 {
     match part {
-        Part::Plain(name) => {
-            name.as_slice() == b"echo".as_slice() || name.as_slice() == b"cat".as_slice()
-        }
+        Part::Plain(name) => named(name.as_slice()).is_some(),
         _ => false,
     }
 }
@@ -142,8 +141,8 @@ fn are_built_pipelines(leaves: &[Pipeline]) -> bool
     leaves.iter().all(|pipeline| is_built_pipeline(pipeline))
 }
 
-/// Whether the whole script is of the forms that run: commands `echo` and `cat`, one after another, whose words are plain
-/// bytes, quoted ones, or both, without a pattern or a tilde outside quotes.
+/// Whether the whole script is of the forms that run: commands one after another, each with the plain name of a utility that is
+/// built in front, whose words are plain bytes, quoted ones, or both, without a pattern or a tilde outside quotes.
 pub fn built(script: &Script) -> bool
     ensures { result ≡ is_built script.now }
 {

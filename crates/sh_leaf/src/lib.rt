@@ -8,6 +8,7 @@ mod head;
 mod leaf;
 mod outcome;
 mod record;
+mod utility;
 mod words;
 
 pub use command::run_command;

@@ -19,6 +19,8 @@ enum Step<'a> {
     Err(&'a str),
     /// Nothing of standard input is left.
     Taken,
+    /// A file has these bytes.
+    Made(&'a str),
     Status(u8),
 }
 
@@ -131,6 +133,9 @@ fn is_step(effect: &Effect, step: Step<'_>) -> bool {
         Step::Out(bytes) => is_written(effect, Fd::One, bytes),
         Step::Err(bytes) => is_written(effect, Fd::Two, bytes),
         Step::Taken => matches!(effect, Effect::SetInput(text) if text.is_empty()),
+        Step::Made(bytes) => {
+            matches!(effect, Effect::Put(_, text) if text.as_slice() == bytes.as_bytes())
+        }
         Step::Status(status) => matches!(effect, Effect::SetStatus(set) if *set == status),
     }
 }
@@ -254,6 +259,57 @@ fn leaves_do_what_their_words_say(rt: HostRuntime) -> Result<(), Fail> {
             2,
         ),
         doing(&[], None, &[Step::Status(0)], 0),
+        doing(&["ls"], None, &[Step::Status(127)], 127),
+    ];
+    assert!(rt; do_all(rt.alloc(), &rows));
+    Ok(())
+}
+
+#[test]
+fn each_utility_has_its_name(rt: HostRuntime) -> Result<(), Fail> {
+    let file = Some("ab c\nd\n");
+    let rows = [
+        doing(
+            &["head", "-n", "1", "f"],
+            file,
+            &[Step::Out("ab c\n"), Step::Status(0)],
+            0,
+        ),
+        doing(
+            &["tail", "-n", "1", "f"],
+            file,
+            &[Step::Out("d\n"), Step::Status(0)],
+            0,
+        ),
+        doing(
+            &["wc", "f"],
+            file,
+            &[Step::Out("2 3 7 f\n"), Step::Status(0)],
+            0,
+        ),
+        doing(
+            &["cut", "-b", "1", "f"],
+            file,
+            &[Step::Out("a\nd\n"), Step::Status(0)],
+            0,
+        ),
+        doing(
+            &["fold", "-w", "2", "f"],
+            file,
+            &[Step::Out("ab\n c\nd\n"), Step::Status(0)],
+            0,
+        ),
+        doing(
+            &["tee", "t"],
+            None,
+            &[
+                Step::Taken,
+                Step::Out("in"),
+                Step::Made("in"),
+                Step::Status(0),
+            ],
+            0,
+        ),
     ];
     assert!(rt; do_all(rt.alloc(), &rows));
     Ok(())

@@ -1,0 +1,10 @@
+use Rattle.std.proofs.Common.{ap, sym}
+use Rattle.hs_view.proofs.Acting.{acts_as}
+use Rattle.util_print.specs.Echo.{echo}
+use Rattle.sh_leaf.specs.Utilities.{does}
+use Rattle.sh_leaf.specs.declared.utility.Utility.{Utility}
+use Rattle.sh_leaf.proofs.utility.Utility.run.Goals as goal
+
+pub returns-in-Echo : goal.returns-in-Echo
+returns-in-Echo g c =
+    acts_as g.B.Base.seen (echo c.args.args.now) (does c.args.self c.args.args.now) c.args.view.now c.echo.new.view c.echo.result (λ u s. ap (λ (x : Utility). does x c.args.args.now u) (sym c.in-Echo.is)) c.echo.ensures
