@@ -4,7 +4,7 @@ ghost use Rattle.std.specs.Arc.{arc_value};
 ghost use Rattle.std.specs.Prelude.{◌≡◌, true};
 ghost use Rattle.sh_leaf.specs.Built.{is_built};
 
-use anyhow::bail;
+use anyhow::{Context, bail};
 use hs_drive::{Ending, plain};
 use hs_outside::{Failed, MemoryHost, Sink};
 use hs_text::{Text, TextList};
@@ -84,15 +84,29 @@ fn lines(alloc: Global, size: u32) -> Result<Text, AllocError> {
 }
 
 /// The bytes that a script which is built writes over this state.
-fn written(alloc: Global, script: Arc<Script>, world: World) -> Option<u64>
+fn written_over(alloc: Global, script: Arc<Script>, world: World, host: MemoryHost) -> Option<u64>
     requires { is_built (arc_value script) ≡ true }
 {
-    let mut host = MemoryHost::new(Tree::new(alloc), Vec::new(alloc)).ok()?;
+    let mut host = host;
     let (mut out, mut err) = (Counter { taken: 0 }, Counter { taken: 0 });
     let (ending, _) = plain(alloc, script, world, LIMITS, &mut host, &mut out, &mut err);
+    drop(host);
     match ending {
         Ending::Done(_) => Some(out.taken),
         _ => None,
+    }
+}
+
+fn written(alloc: Global, script: Arc<Script>, world: World) -> Option<u64>
+    requires { is_built (arc_value script) ≡ true }
+{
+    match MemoryHost::new(Tree::new(alloc), Vec::new(alloc)) {
+        Ok(host) => written_over(alloc, script, world, host),
+        Err(_) => {
+            drop(script);
+            drop(world);
+            None
+        }
     }
 }
 
@@ -106,7 +120,10 @@ fn run_over(alloc: Global, script: Arc<Script>, tree: Tree) -> Option<u64>
 {
     match begin(alloc, tree) {
         Some(world) => written(alloc, script, world),
-        None => None,
+        None => {
+            drop(script);
+            None
+        }
     }
 }
 
@@ -117,20 +134,27 @@ fn run_files(alloc: Global, script: Arc<Script>, count: u32, text: &Text) -> Opt
     if fill(alloc, &mut tree, count, text) {
         return run_over(alloc, script, tree);
     }
+    drop(script);
+    drop(tree);
     None
+}
+
+fn run_script(alloc: Global, script: Script, count: u32, text: &Text) -> anyhow::Result<u64> {
+    if !built(&script) {
+        drop(script);
+        bail!("the script is not built");
+    }
+    match Arc::new(alloc, script) {
+        Ok(script) => run_files(alloc, script, count, text).context("the run did not end"),
+        Err(error) => Err(error.into()),
+    }
 }
 
 /// Runs a script over so many files of so many bytes, and answers how many bytes it wrote on standard output.
 pub fn run(alloc: Global, count: u32, size: u32, text: &[u8]) -> anyhow::Result<u64> {
     let content = lines(alloc, size)?;
-    let Ok(script) = parse(alloc, text) else {
-        bail!("the text spells no script");
-    };
-    if !built(&script) {
-        bail!("the script is not built");
-    }
-    match run_files(alloc, Arc::new(alloc, script)?, count, &content) {
-        Some(bytes) => Ok(bytes),
-        None => bail!("the run did not end"),
+    match parse(alloc, text) {
+        Ok(script) => run_script(alloc, script, count, &content),
+        Err(_) => bail!("the text spells no script"),
     }
 }
