@@ -72,14 +72,12 @@ const LINE: &[u8] = b"one two\tthree four,five six seven\teight nine,ten eleven 
 
 /// A text of so many bytes: a front of one line, again and again.
 fn lines(alloc: Global, size: u32) -> Result<Text, AllocError> {
-    let mut left = size as usize;
     let mut bytes = Vec::new(alloc);
-    bytes.reserve(left)?;
-    while left > 0 {
-        let count = left.min(LINE.len());
-        bytes.extend_from_slice(&LINE[..count])?;
-        left -= count;
+    for _ in 0..size / 64 {
+        bytes.extend_from_slice(LINE)?;
     }
+    let rest = (size % 64) as usize;
+    bytes.extend_from_slice(&LINE[..rest.min(LINE.len())])?;
     Text::from_vec(alloc, bytes)
 }
 
