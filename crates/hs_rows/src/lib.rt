@@ -1,5 +1,5 @@
-//! Cases for the state of the shell, as tables: tests alone, apart from hs_world, so that a case more proves nothing anew
-//! but these.
+//! Cases for the state of the shell and for views of it, as tables: tests alone, apart from hs_world and hs_view, so that a
+//! case more proves nothing anew but these.
 #![tactic(auto)]
 
 #[cfg(test)]
@@ -8,3 +8,5 @@ mod paths;
 mod places;
 #[cfg(test)]
 mod trees;
+#[cfg(test)]
+mod views;

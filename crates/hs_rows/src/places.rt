@@ -10,7 +10,7 @@ use std::test::Fail;
 
 /// Where descriptor 1 leads; in a table of it alone the others lead nowhere.
 #[derive(Clone, Copy)]
-enum To<'a> {
+pub enum To<'a> {
     Error,
     File(&'a str),
     Null,
@@ -22,7 +22,7 @@ enum To<'a> {
 
 /// An effect.
 #[derive(Clone, Copy)]
-enum Step<'a> {
+pub enum Step<'a> {
     SetVar(&'a str, &'a str),
     UnsetVar(&'a str),
     SetFunc(&'a str, u32),
@@ -53,7 +53,7 @@ enum Step<'a> {
 
 /// A location, and what it has.
 #[derive(Clone, Copy)]
-enum Shows<'a> {
+pub enum Shows<'a> {
     Kind(&'a str, Kind),
     Bytes(&'a str, Option<&'a str>),
     Names(&'a str, &'a [&'a str]),
@@ -82,9 +82,9 @@ struct Row<'a> {
 }
 
 #[derive(Drop)]
-struct Read {
-    loc: Loc,
-    value: Value,
+pub struct Read {
+    pub loc: Loc,
+    pub value: Value,
 }
 
 fn text(alloc: Global, bytes: &str) -> Result<Text, AllocError> {
@@ -167,7 +167,7 @@ fn reply(alloc: Global, file: &str) -> Result<Reply, AllocError> {
     })
 }
 
-fn effect(alloc: Global, step: Step<'_>) -> Result<Effect, AllocError> {
+pub fn effect(alloc: Global, step: Step<'_>) -> Result<Effect, AllocError> {
     match step {
         Step::SetVar(name, value) => Ok(Effect::SetVar(text(alloc, name)?, var(alloc, value)?)),
         Step::UnsetVar(name) => Ok(Effect::UnsetVar(text(alloc, name)?)),
@@ -236,14 +236,14 @@ fn value(alloc: Global, shows: Shows<'_>) -> Result<Value, AllocError> {
     }
 }
 
-fn read_of(alloc: Global, shows: Shows<'_>) -> Result<Read, AllocError> {
+pub fn read_of(alloc: Global, shows: Shows<'_>) -> Result<Read, AllocError> {
     let loc = loc(alloc, shows)?;
     let value = value(alloc, shows)?;
     Ok(Read { loc, value })
 }
 
 /// The state in which a script begins, over an empty tree.
-fn begin(alloc: Global) -> Option<World> {
+pub fn begin(alloc: Global) -> Option<World> {
     let limits = Limits {
         bytes: 1024,
         turns: 1,
@@ -273,7 +273,7 @@ fn does_step(alloc: Global, world: &mut World, step: Step<'_>) -> bool {
     }
 }
 
-fn does_steps(alloc: Global, world: &mut World, steps: &[Step<'_>]) -> bool {
+pub fn does_steps(alloc: Global, world: &mut World, steps: &[Step<'_>]) -> bool {
     for step in steps {
         if !does_step(alloc, world, *step) {
             return false;
