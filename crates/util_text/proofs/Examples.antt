@@ -1,24 +1,25 @@
 -- Texts, and what the utilities make of them.
-use Rattle.std.proofs.Common.{◌≡◌, ℕ, Bool, true, false, List, [], ◌∷◌, ◌++◌, None, Some, Ok, Err, refl, codes}
+use Rattle.std.proofs.Common.{◌≡◌, ℕ, true, false, List, [], ◌∷◌, ◌++◌, None, Some, Ok, Err, refl, codes}
 use Rattle.std.specs.Prelude.{decimal}
 use Rattle.std.specs.List.{join_with_byte}
 use Rattle.hs_world.specs.World.{WorldData}
-use Rattle.hs_world.specs.declared.effect.Effect.{Effect}
 use Rattle.hs_world.specs.declared.effect.Effect.TheVariants.{Append, Emit, Put, SetInput}
 use Rattle.hs_world.specs.declared.effect.Fd.TheVariants.{One}
 use Rattle.hs_world.specs.Paths.{Path}
 use Rattle.hs_world.specs.declared.entry.Kind.TheVariants as kind
-use Rattle.util_common.specs.Operands.{progress_of}
+use Rattle.util_common.specs.Operands.{dash, emitted, progress_of, refused}
 use Rattle.util_common.specs.declared.messages.Why.TheVariants.{BadList, Excluding, IsFolder, MissingOperand, NoSuchFolder}
-use Rattle.util_text.specs.declared.counting.Counts.{Counts}
 use Rattle.util_text.specs.declared.ends.Ends.TheVariants.{Last, From}
 use Rattle.util_text.specs.Count.{number}
 use Rattle.util_text.specs.Counting.{counts, total}
 use Rattle.util_text.specs.Fold.{fold}
 use Rattle.util_text.specs.Lines.{lines, pieces, first_lines, last_lines, lines_from}
 use Rattle.util_text.specs.Cut.{cut_fields}
+use Rattle.util_text.specs.Paste.{delimiters_of, paste, serial}
+use Rattle.util_text.specs.Pasting.{gathered_written, paste_of}
 use Rattle.util_text.specs.Places.{list_of, selects}
 use Rattle.util_text.specs.Slicing.{wanted}
+use Rattle.util_text.specs.declared.column.Column.TheVariants.{File, Input}
 use Rattle.util_text.specs.declared.slicing.Items.TheVariants.{Bytes, Fields}
 use Rattle.util_text.specs.Tail.{ends_of}
 use Rattle.util_text.specs.Teeing.{input_copied, written_at}
@@ -132,6 +133,46 @@ no_list = refl
 
 long_delimiter : wanted ((102, Some (codes "1")) ∷ (100, Some (codes "ab")) ∷ []) ≡ Err BadList
 long_delimiter = refl
+
+-- ---- paste
+
+ended_file : paste (Some 58 ∷ []) (File (lines (codes "1\n2\n")) ∷ File (lines (codes "x\n")) ∷ []) [] ≡ codes "1:x\n2:\n"
+ended_file = refl
+
+-- the delimiters in turn, and anew for each line
+in_turn : paste (Some 58 ∷ Some 59 ∷ []) (File (lines (codes "a\nb\n")) ∷ File (lines (codes "c\nd\n")) ∷ File (lines (codes "e\nf\n")) ∷ []) [] ≡ codes "a:c;e\nb:d;f\n"
+in_turn = refl
+
+lines_in_turn : paste (Some 58 ∷ []) (Input ∷ Input ∷ []) (lines (codes "1\n2\n3\n")) ≡ codes "1:2\n3:\n"
+lines_in_turn = refl
+
+one_each : serial (Some 58 ∷ Some 59 ∷ []) (codes "a\nb\n\nc") ≡ codes "a:b;:c\n"
+one_each = refl
+
+no_lines : serial (Some 58 ∷ []) [] ≡ codes "\n"
+no_lines = refl
+
+known_escapes : delimiters_of (codes ":\\n\\t\\\\\\0") ≡ Some (Some 58 ∷ Some 10 ∷ Some 9 ∷ Some 92 ∷ None ∷ [])
+known_escapes = refl
+
+other_escape : delimiters_of (codes "\\a") ≡ None
+other_escape = refl
+
+half_escape : delimiters_of (codes ":\\") ≡ None
+half_escape = refl
+
+no_delimiter : delimiters_of [] ≡ None
+no_delimiter = refl
+
+-- what the first `-` found is for all of them
+two_dashes : gathered_written (Some 58 ∷ []) (dash ∷ dash ∷ []) (codes "1\n2\n" ∷ [] ∷ []) 0 ≡ emitted One (codes "1:2\n") 0
+two_dashes = refl
+
+after_refusal : (w : WorldData) → gathered_written (Some 58 ∷ []) (codes "f" ∷ codes "g" ∷ []) (codes "1\n" ∷ []) 1 w ≡ record { effects = []; answer = 1 }
+after_refusal w = refl
+
+list_first : (w : WorldData) → paste_of false [] None w ≡ refused (codes "paste") BadList w
+list_first w = refl
 
 -- ---- tee
 

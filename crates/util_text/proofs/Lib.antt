@@ -12,7 +12,9 @@ pub mod Fields
 pub mod Greater
 pub mod Ranges
 pub mod Trims
+pub mod Pasted
 pub mod Picked
+pub mod Sided
 pub mod Exits
 pub mod Headed
 pub mod Tailed

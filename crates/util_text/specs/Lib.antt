@@ -4,10 +4,14 @@ pub mod Count
 pub mod Counting
 pub mod Cut
 pub mod Fold
+pub mod Gathering
 pub mod Head
 pub mod Lines
+pub mod Lists
 pub mod Numbers
 pub mod Parts
+pub mod Paste
+pub mod Pasting
 pub mod Places
 pub mod Refusals
 pub mod Selected
@@ -18,5 +22,6 @@ pub mod Tail
 pub mod Tailing
 pub mod Tallying
 pub mod Teeing
+pub mod Turns
 pub mod Wc
 pub mod Wrapping

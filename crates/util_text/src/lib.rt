@@ -1,27 +1,34 @@
-//! Text utilities (POSIX.1-2017, XCU 4): `cat`, `head`, `tail` and `fold`, and what `wc`, `cut` and `paste` make of bytes. Their
-//! definitions stand in specs/.
+//! Text utilities (POSIX.1-2017, XCU 4): `cat`, `head`, `tail`, `fold`, `wc`, `cut`, `paste` and `tee`. Their definitions stand in
+//! specs/.
 #![tactic(auto)]
 
 mod buffer;
 mod catenating;
 mod chosen;
+mod column;
 mod counted;
 mod counting;
 mod cutting;
+mod delimiters;
 mod ends;
+mod escapes;
 mod fault;
 mod fielding;
 mod folding;
+mod gathering;
 mod heading;
+mod joining;
 mod line;
 mod list;
 mod number;
 mod part;
+mod pasting;
 mod places;
 mod slicing;
 mod tailing;
 mod tallying;
 mod teeing;
+mod unread;
 mod width;
 mod wrapping;
 
@@ -35,6 +42,7 @@ pub use fielding::cut_fields;
 pub use heading::head;
 pub use list::read_list;
 pub use number::read_count;
+pub use pasting::paste;
 pub use places::{Selection, Span};
 pub use slicing::cut;
 pub use tailing::tail;

@@ -1,10 +1,15 @@
+use crate::column::Column;
 use crate::counting::sum;
 use crate::ends::tail;
+use crate::escapes::read_delimiters;
 use crate::folding::fold;
+use crate::joining::{paste, paste_serial};
+use crate::unread::Unread;
 use crate::{
     Chosen, Counts, TextErr, count, cut_bytes, cut_fields, first_lines, last_lines, read_count,
     read_ends, read_list, write_counts,
 };
+use hs_text::Text;
 use std::alloc::{AllocError, Global};
 use std::test::Fail;
 
@@ -281,6 +286,102 @@ fn lists_select_fields(rt: HostRuntime) -> Result<(), Fail> {
         let mut out = Vec::new(rt.alloc());
         cut_fields(&mut out, text.as_bytes(), &selection, b':', *only)?;
         assert_eq!(rt; out.as_slice(), wanted.as_bytes(), "{list} of {text:?}");
+    }
+    Ok(())
+}
+
+/// A list of delimiters, columns, where none is standard input, its text, and the rows.
+const PASTES: [(&str, &[Option<&str>], &str, &str); 10] = [
+    (":", &[Some("1\n2\n"), Some("x\n")], "", "1:x\n2:\n"),
+    (
+        ":;",
+        &[Some("a\nb"), Some("c"), Some("d\ne\n")],
+        "",
+        "a:c;d\nb:;e\n",
+    ),
+    (
+        ":;",
+        &[Some("1"), Some("2"), Some("3"), Some("4")],
+        "",
+        "1:2;3:4\n",
+    ),
+    (
+        "\\t\\n",
+        &[Some("a"), Some("b"), Some("c")],
+        "",
+        "a\tb\nc\n",
+    ),
+    ("\\0\\\\", &[Some("a"), Some("b"), Some("c")], "", "ab\\c\n"),
+    (":", &[None, None], "1\n2\n3\n", "1:2\n3:\n"),
+    (
+        ":",
+        &[None, Some("x\ny\nz\n"), None],
+        "1\n2\n3",
+        "1:x:2\n3:y:\n:z:\n",
+    ),
+    (":", &[Some("x\n")], "1\n2\n", "x\n"),
+    (":", &[Some(""), Some("")], "", ""),
+    (":", &[Some("a"), Some("\n\n")], "", "a:\n:\n"),
+];
+
+fn column(alloc: Global, text: Option<&str>) -> Result<Column, AllocError> {
+    match text {
+        Some(text) => Ok(Column::File(Unread::new(Text::from_slice(alloc, text.as_bytes())?))),
+        None => Ok(Column::Input),
+    }
+}
+
+fn columns(alloc: Global, texts: &[Option<&str>]) -> Result<Vec<Column>, AllocError> {
+    let mut columns = Vec::new(alloc);
+    for text in texts {
+        columns.push(column(alloc, *text)?)?;
+    }
+    Ok(columns)
+}
+
+#[test]
+fn lines_are_joined_side_by_side(rt: HostRuntime) -> Result<(), Fail> {
+    let alloc = rt.alloc();
+    for (list, texts, input, wanted) in &PASTES {
+        let delimiters = read_delimiters(alloc, list.as_bytes())?;
+        let mut columns = columns(alloc, texts)?;
+        let mut input = Unread::new(Text::from_slice(alloc, input.as_bytes())?);
+        let mut out = Vec::new(alloc);
+        paste(&mut out, columns.as_mut_slice(), &mut input, &delimiters)?;
+        assert_eq!(rt; out.as_slice(), wanted.as_bytes(), "{wanted:?}");
+    }
+    Ok(())
+}
+
+/// A list of delimiters, a text, and its lines joined.
+const SERIALS: [(&str, &str, &str); 4] = [
+    (":", "a\nb\nc\n", "a:b:c\n"),
+    (":;", "a\nb\n\nd", "a:b;:d\n"),
+    ("\\0", "a\nb\n", "ab\n"),
+    (":", "", "\n"),
+];
+
+#[test]
+fn lines_are_joined_to_one(rt: HostRuntime) -> Result<(), Fail> {
+    for (list, text, wanted) in &SERIALS {
+        let delimiters = read_delimiters(rt.alloc(), list.as_bytes())?;
+        let mut out = Vec::new(rt.alloc());
+        paste_serial(&mut out, text.as_bytes(), &delimiters)?;
+        assert_eq!(rt; out.as_slice(), wanted.as_bytes(), "{text:?}");
+    }
+    Ok(())
+}
+
+const BAD_DELIMITERS: [&str; 4] = ["", "\\", "\\a", "a\\"];
+
+#[test]
+fn bad_delimiters_are_refused(rt: HostRuntime) -> Result<(), Fail> {
+    for list in &BAD_DELIMITERS {
+        let bad = matches!(
+            read_delimiters(rt.alloc(), list.as_bytes()),
+            Err(TextErr::BadList)
+        );
+        assert!(rt; bad, "{list:?}");
     }
     Ok(())
 }
