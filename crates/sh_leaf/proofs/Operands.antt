@@ -18,7 +18,7 @@ valid_then one rest a b = λ w. valid_append (one w).effects (rest (one w).answe
 
 -- ---- operands that are read
 
-taken_by : (dash : Bool) (content : Content) (w : WorldData) → AllValid (if dash then input_taken w else nothing content w).effects w
+pub taken_by : (dash : Bool) (content : Content) (w : WorldData) → AllValid (if dash then input_taken w else nothing content w).effects w
 taken_by true content w = (refl, tt)
 taken_by false content w = tt
 
@@ -29,7 +29,7 @@ written_by name text so_far word (Refused why) w = (refl, tt)
 operand_valid : (name : List ℕ) (text : Writer) (so_far : Progress) (word : List ℕ) → Valid (operand_written name text so_far word)
 operand_valid name text so_far word = valid_then (content_taken word) (content_written name text so_far word) (λ w. taken_by _ (content_in w.tree (resolve w.cwd word)) w) (written_by name text so_far word)
 
-operands_valid : (name : List ℕ) (text : Writer) (so_far : Progress) (words : List (List ℕ)) → Valid (operands_written name text so_far words)
+pub operands_valid : (name : List ℕ) (text : Writer) (so_far : Progress) (words : List (List ℕ)) → Valid (operands_written name text so_far words)
 operands_valid name text so_far [] w = tt
 operands_valid name text so_far (word ∷ words) w =
     valid_then (operand_written name text so_far word) (λ next. operands_written name text next words) (operand_valid name text so_far word) (λ next. operands_valid name text next words) w

@@ -1,5 +1,5 @@
 -- The effects of a leaf are valid where they come, in every state.
-use Rattle.std.proofs.Common.{◌≡◌, ℕ, Bool, true, false, List, [], ◌∷◌, refl, sym, ap}
+use Rattle.std.proofs.Common.{◌≡◌, ℕ, zero, suc, Bool, true, false, List, [], ◌∷◌, refl, sym, ap}
 use Rattle.std.specs.Prelude.{Option, Some, None, Result, Ok, Err, codes, if◌then◌else◌}
 use Rattle.hs_world.specs.Files.{entry_at, is_dir, is_file, kind_of}
 use Rattle.hs_world.specs.Paths.{Path, parent, resolve}
@@ -9,14 +9,18 @@ use Rattle.hs_world.specs.declared.entry.Entry.{Entry}
 use Rattle.hs_world.specs.declared.entry.Entry.TheVariants.{File, Dir, Other}
 use Rattle.hs_view.specs.Acts.{answering}
 use Rattle.sh_syntax.specs.declared.tree.Pipeline.{Pipeline}
-use Rattle.util_common.specs.Operands.{emitted, input_read, none_yet, operands_written, or_input, refused, status_of}
+use Rattle.util_common.specs.Operands.{content_in, content_taken, emitted, input_read, none_yet, operands_written, or_input, refused, status_of}
 use Rattle.util_common.specs.Words.{is_given, last_value, words_of}
+use Rattle.util_common.specs.declared.content.Content.{Content}
+use Rattle.util_common.specs.declared.content.Content.TheVariants.{Bytes, Refused}
 use Rattle.util_common.specs.declared.messages.Why.{Why}
 use Rattle.util_common.specs.declared.messages.Why.TheVariants.{ExtraOperand}
 use Rattle.util_opts.specs.declared.options.Options.{Options}
 use Rattle.util_text.proofs.Teed.{put_valid}
 use Rattle.util_text.specs.Cat.{cat_by, cat_options, unchanged}
+use Rattle.util_text.specs.Gathering.{content_gathered, none_gathered, operand_gathered, operands_gathered}
 use Rattle.util_text.specs.Head.{head_by, head_of, head_options, heads, is_several, lines_wanted}
+use Rattle.util_text.specs.Pasting.{columns_written, delimiters_wanted, gathered_written, lines_written, operands_pasted, paste_by, paste_of, paste_options, serials}
 use Rattle.util_text.specs.Places.{Range}
 use Rattle.util_text.specs.Slicing.{cut_by, cut_of, cut_options, cuts, wanted}
 use Rattle.util_text.specs.Tailing.{ends_wanted, tail_by, tail_of, tail_options, tails}
@@ -27,13 +31,14 @@ use Rattle.util_text.specs.Wrapping.{fold_by, fold_of, fold_options, folds, widt
 use Rattle.util_text.specs.declared.chosen.Chosen.{Chosen}
 use Rattle.util_text.specs.declared.counting.Counts.{Counts}
 use Rattle.util_text.specs.declared.ends.Ends.{Ends}
+use Rattle.util_text.specs.declared.gathering.Gathered.{Gathered}
 use Rattle.util_text.specs.declared.slicing.Items.{Items}
-use Rattle.sh_leaf.proofs.Operands.{Valid, filters_valid, valid_then}
+use Rattle.sh_leaf.proofs.Operands.{Valid, filters_valid, operands_valid, taken_by, valid_then}
 use Rattle.sh_leaf.specs.Command.{command, leaf_done, leaf_words, set_status, utility}
 use Rattle.sh_leaf.specs.Fields.{fields}
 use Rattle.sh_leaf.specs.Utilities.{does, found, named}
 use Rattle.sh_leaf.specs.declared.utility.Utility.{Utility}
-use Rattle.sh_leaf.specs.declared.utility.Utility.TheVariants.{Cat, Cut, Echo, Fold, Head, Tail, Tee, Wc}
+use Rattle.sh_leaf.specs.declared.utility.Utility.TheVariants.{Cat, Cut, Echo, Fold, Head, Paste, Tail, Tee, Wc}
 
 -- ---- filters, which write one text for each operand
 
@@ -90,6 +95,45 @@ wc_valid (Ok options) w =
     valid_then (operands_written (codes "wc") text none_yet (or_input options.operands)) (total_written chosen several) (filters_valid (codes "wc") text options.operands) (λ read u. sum_valid chosen several (total read.contents) read.status u) w
 wc_valid (Err why) w = (refl, tt)
 
+-- ---- paste, which may read all operands before it writes
+
+gathered_by : (so_far : Gathered) (word : List ℕ) (content : Content) → Valid (content_gathered (codes "paste") so_far word content)
+gathered_by so_far word (Bytes bytes) w = tt
+gathered_by so_far word (Refused why) w = (refl, tt)
+
+one_gathered : (so_far : Gathered) (word : List ℕ) → Valid (operand_gathered (codes "paste") so_far word)
+one_gathered so_far word =
+    valid_then (content_taken word) (content_gathered (codes "paste") so_far word) (λ w. taken_by _ (content_in w.tree (resolve w.cwd word)) w) (gathered_by so_far word)
+
+all_gathered : (so_far : Gathered) (words : List (List ℕ)) → Valid (operands_gathered (codes "paste") so_far words)
+all_gathered so_far [] w = tt
+all_gathered so_far (word ∷ words) w =
+    valid_then (operand_gathered (codes "paste") so_far word) (λ next. operands_gathered (codes "paste") next words) (one_gathered so_far word) (λ next. all_gathered next words) w
+
+rows_valid : (ds : List (Option ℕ)) (words contents : List (List ℕ)) (status : ℕ) → Valid (gathered_written ds words contents status)
+rows_valid ds words contents zero w = (refl, tt)
+rows_valid ds words contents (suc n) w = tt
+
+columns_valid : (ds : List (Option ℕ)) (words : List (List ℕ)) → Valid (columns_written ds words)
+columns_valid ds words =
+    valid_then (operands_gathered (codes "paste") none_gathered words) (λ read. gathered_written ds words read.contents read.status) (all_gathered none_gathered words) (λ read. rows_valid ds words read.contents read.status)
+
+lines_valid : (apart : Bool) (ds : List (Option ℕ)) (words : List (List ℕ)) → Valid (lines_written apart ds words)
+lines_valid true ds words w = operands_valid (codes "paste") (serials ds) none_yet words w
+lines_valid false ds words w = columns_valid ds words w
+
+pasted_valid : (apart : Bool) (ds : List (Option ℕ)) (words : List (List ℕ)) → Valid (operands_pasted apart ds words)
+pasted_valid apart ds [] w = (refl, tt)
+pasted_valid apart ds (word ∷ words) w = lines_valid apart ds (word ∷ words) w
+
+paste_of_valid : (apart : Bool) (operands : List (List ℕ)) (ds : Option (List (Option ℕ))) → Valid (paste_of apart operands ds)
+paste_of_valid apart operands None w = (refl, tt)
+paste_of_valid apart operands (Some ds) w = pasted_valid apart ds operands w
+
+paste_valid : (words : Result Options Why) → Valid (paste_by words)
+paste_valid (Ok options) w = paste_of_valid (is_given 115 options.given) options.operands (delimiters_wanted (last_value 100 options.given)) w
+paste_valid (Err why) w = (refl, tt)
+
 -- ---- tee, which makes files
 
 made_valid : (folder : Bool) (path : Path) (text word : List ℕ) (status : ℕ) (w : WorldData) → folder ≡ is_dir (entry_at w.tree (parent path)) → is_free (entry_at w.tree path) ≡ true → AllValid (told word status (made_in folder path text) w).effects w
@@ -131,6 +175,7 @@ does_valid Cut args w = cut_valid (words_of cut_options args) w
 does_valid Echo args w = (refl, tt)
 does_valid Fold args w = fold_valid (words_of fold_options args) w
 does_valid Head args w = head_valid (words_of head_options args) w
+does_valid Paste args w = paste_valid (words_of paste_options args) w
 does_valid Tail args w = tail_valid (words_of tail_options args) w
 does_valid Tee args w = tee_valid (words_of tee_options args) w
 does_valid Wc args w = wc_valid (words_of wc_options args) w

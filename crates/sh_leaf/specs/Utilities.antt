@@ -6,13 +6,14 @@ use Rattle.hs_view.specs.Steps.{Done, nothing}
 use Rattle.util_print.specs.Echo.{echo}
 use Rattle.util_text.specs.Cat.{cat}
 use Rattle.util_text.specs.Head.{head}
+use Rattle.util_text.specs.Pasting.{paste_command}
 use Rattle.util_text.specs.Slicing.{cut_command}
 use Rattle.util_text.specs.Tailing.{tail_command}
 use Rattle.util_text.specs.Tallying.{wc}
 use Rattle.util_text.specs.Teeing.{tee}
 use Rattle.util_text.specs.Wrapping.{fold_command}
 use Rattle.sh_leaf.specs.declared.utility.Utility.{Utility}
-use Rattle.sh_leaf.specs.declared.utility.Utility.TheVariants.{Cat, Cut, Echo, Fold, Head, Tail, Tee, Wc}
+use Rattle.sh_leaf.specs.declared.utility.Utility.TheVariants.{Cat, Cut, Echo, Fold, Head, Paste, Tail, Tee, Wc}
 
 abbrev pub names : List (List ℕ × Utility)
 names =
@@ -21,6 +22,7 @@ names =
     ∷ (codes "echo", Echo)
     ∷ (codes "fold", Fold)
     ∷ (codes "head", Head)
+    ∷ (codes "paste", Paste)
     ∷ (codes "tail", Tail)
     ∷ (codes "tee", Tee)
     ∷ (codes "wc", Wc)
@@ -40,6 +42,7 @@ does Cut args w = cut_command args w
 does Echo args w = echo args w
 does Fold args w = fold_command args w
 does Head args w = head args w
+does Paste args w = paste_command args w
 does Tail args w = tail_command args w
 does Tee args w = tee args w
 does Wc args w = wc args w

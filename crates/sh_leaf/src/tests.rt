@@ -300,6 +300,12 @@ fn each_utility_has_its_name(rt: HostRuntime) -> Result<(), Fail> {
             0,
         ),
         doing(
+            &["paste", "-s", "f"],
+            file,
+            &[Step::Out("ab c\td\n"), Step::Status(0)],
+            0,
+        ),
+        doing(
             &["tee", "t"],
             None,
             &[

@@ -8,7 +8,7 @@ use hs_text::TextList;
 use hs_view::{Base, Halt, View};
 use std::alloc::Global;
 use util_print::echo;
-use util_text::{cat, cut, fold, head, tail, tee, wc};
+use util_text::{cat, cut, fold, head, paste, tail, tee, wc};
 
 /// A utility that is built.
 #[derive(Clone, Copy, Debug, PartialEq, Eq)]
@@ -18,6 +18,7 @@ pub enum Utility {
     Echo,
     Fold,
     Head,
+    Paste,
     Tail,
     Tee,
     Wc,
@@ -33,6 +34,7 @@ pub fn named(name: &[u8]) -> Option<Utility>
         b"echo" => Some(Utility::Echo),
         b"fold" => Some(Utility::Fold),
         b"head" => Some(Utility::Head),
+        b"paste" => Some(Utility::Paste),
         b"tail" => Some(Utility::Tail),
         b"tee" => Some(Utility::Tee),
         b"wc" => Some(Utility::Wc),
@@ -56,6 +58,7 @@ impl Utility {
             Utility::Echo => echo(alloc, args, view),
             Utility::Fold => fold(alloc, args, view),
             Utility::Head => head(alloc, args, view),
+            Utility::Paste => paste(alloc, args, view),
             Utility::Tail => tail(alloc, args, view),
             Utility::Tee => tee(alloc, args, view),
             Utility::Wc => wc(alloc, args, view),
