@@ -250,12 +250,20 @@ const NULL: Step<'static> = Step::PushRoutes(To::Null);
 const CAPTURE: Step<'static> = Step::PushRoutes(To::Capture);
 
 #[test]
-fn what_is_read_is_recorded(rt: HostRuntime) -> Result<(), Fail> {
+fn files_are_recorded(rt: HostRuntime) -> Result<(), Fail> {
     let cases = [
         read(&[FILE], Shows::Kind("/f", Kind::File)),
         read(&[], Shows::Kind("/f", Kind::Absent)),
         read(&[FILE], Shows::Bytes("/f", Some("a"))),
         read(&[], Shows::Bytes("/f", None)),
+    ];
+    assert!(rt; hold(rt.alloc(), &cases));
+    Ok(())
+}
+
+#[test]
+fn names_are_recorded(rt: HostRuntime) -> Result<(), Fail> {
+    let cases = [
         read(&[FILE], Shows::Names("/", &["f"])),
         read(&[ONE], Shows::Var("x", Some("1"))),
         read(&[], Shows::Var("x", None)),
@@ -272,6 +280,14 @@ fn what_the_shell_has_is_recorded(rt: HostRuntime) -> Result<(), Fail> {
         read(&[Step::SetStatus(3)], Shows::Status(3)),
         read(&[], Shows::Cwd("/")),
         read(&[Step::SetOpts(Opts::ERREXIT)], Shows::Opts(Opts::ERREXIT)),
+    ];
+    assert!(rt; hold(rt.alloc(), &cases));
+    Ok(())
+}
+
+#[test]
+fn inputs_and_routes_are_recorded(rt: HostRuntime) -> Result<(), Fail> {
+    let cases = [
         read(&[Step::SetInput("a")], Shows::Input("a")),
         read(&[Step::SetKept("a")], Shows::Kept(Some("a"))),
         read(&[NULL], Shows::Routes(To::Null)),
