@@ -174,6 +174,44 @@ fn rows(rt: HostRuntime) -> Result<(), Fail> {
 }
 
 #[test]
+fn utilities_run_by_their_names(rt: HostRuntime) -> Result<(), Fail> {
+    let rows = [
+        done(&[b"-c", b"basename /a/b.c .c; dirname /a/b.c"], b"b\n/a\n"),
+        done(&[b"-c", b"pwd"], b"/\n"),
+        done(
+            &[b"-c", b"printf '%5s|%-3d|%03x\\n' ab 7 255"],
+            b"   ab|7  |0ff\n",
+        ),
+        done(&[b"-c", b"true; test 2 -gt 1; [ a = a ]"], b""),
+        done(&[b"-c", b"sort; uniq; tr a b"], b""),
+        done(
+            &[
+                b"-c",
+                b"tee f; sort -n -u f; uniq -c f; comm f f; echo \"[\"",
+            ],
+            b"[\n",
+        ),
+        told(&[b"-c", b"false"], b""),
+        told(&[b"-c", b"[ a = b ]"], b""),
+        told(&[b"-c", b"grep -F a"], b""),
+        told(&[b"-c", b"uniq f"], b"hs: uniq: f: no such file\n"),
+        told(
+            &[b"-c", b"comm f f"],
+            b"hs: comm: f: no such file\nhs: comm: f: no such file\n",
+        ),
+        unbuilt(&[b"-c", b"echo ["]),
+    ];
+    for row in rows.iter() {
+        let shown = run(rt.alloc(), row.words)?;
+        assert!(rt; shown.out.written() == row.out);
+        assert!(rt; shown.err.written() == row.err);
+        assert_eq!(rt; shown.answer.ending, row.ending);
+        assert_eq!(rt; shown.answer.status, row.status);
+    }
+    Ok(())
+}
+
+#[test]
 fn a_fault_is_told_with_its_line(rt: HostRuntime) -> Result<(), Fail> {
     let shown = run(rt.alloc(), &[b"-c", b"echo a\n)"])?;
     assert!(rt; shown.out.written().is_empty());
@@ -417,13 +455,19 @@ fn writes(
     }
 }
 
+/// What utilities of lines write of the lines `10`, `9` and `09`, and those of columns of two files.
+const SORTING: &[u8] = b"sort -n -u g; uniq g; comm g g; paste -d : g f; sort -r f; grep -F -n 9 g";
+
+const SORTED: &[u8] =
+    b"9\n10\n10\n9\n09\n\t\t10\n\t\t9\n\t\t09\n10:ab\n9:c\n09:\nc\nab\n2:9\n3:09\n";
+
 /// Each utility that reads files.
 const READING: &[u8] =
-    b"head -n 1 f f; tail -n 1 f; tail -n +2 f; wc f f; cut -b 1 f; cut -d b -f 1 f; fold -w 1 f";
+    b"head -n 1 f f; tail -n 1 f; tail -n +2 f; wc f f; wc -l f f; cut -b 1 f; cut -d b -f 1 f; fold -w 1 f";
 
 /// What they write where `f` has the lines `ab` and `c`.
 const READ: &[u8] =
-    b"==> f <==\nab\n\n==> f <==\nab\nc\nc\n2 2 5 f\n2 2 5 f\n4 4 10 total\na\nc\na\nc\na\nb\nc\n";
+    b"==> f <==\nab\n\n==> f <==\nab\nc\nc\n2 2 5 f\n2 2 5 f\n4 4 10 total\n2 f\n2 f\n4 total\na\nc\na\nc\na\nb\nc\n";
 
 /// Whether utilities read the file of a host, and `cat` tells that the folder is none.
 fn reads(alloc: Global, tree: Tree) -> bool {
@@ -434,6 +478,7 @@ fn reads(alloc: Global, tree: Tree) -> bool {
                 && writes(alloc, &mut host, b"cat d", b"", told, 1)
                 && writes(alloc, &mut host, b"cat d f", b"ab\nc\n", told, 1)
                 && writes(alloc, &mut host, READING, READ, b"", 0)
+                && writes(alloc, &mut host, SORTING, SORTED, b"", 0)
         }
         Err(_) => false,
     }
@@ -444,7 +489,11 @@ fn reads_a_file(alloc: Global) -> bool {
     let Ok(text) = Text::from_slice(alloc, b"ab\nc\n") else {
         return false;
     };
+    let Ok(numbers) = Text::from_slice(alloc, b"10\n9\n09\n") else {
+        return false;
+    };
     put_entry(alloc, &mut tree, "f", Entry::File(text)).is_ok()
+        && put_entry(alloc, &mut tree, "g", Entry::File(numbers)).is_ok()
         && put_entry(alloc, &mut tree, "d", Entry::Dir).is_ok()
         && reads(alloc, tree)
 }

@@ -139,8 +139,14 @@ option_is_built = refl
 utility_is_built : is_built (one (plain (codes "head") ∷ plain (codes "-n") ∷ plain (codes "1") ∷ plain (codes "f") ∷ [])) ≡ true
 utility_is_built = refl
 
-other_name_is_not : is_built (one (plain (codes "pwd") ∷ [])) ≡ false
+other_name_is_not : is_built (one (plain (codes "ls") ∷ [])) ≡ false
 other_name_is_not = refl
+
+bracket_is : is_built (one (plain (codes "[") ∷ plain (codes "a") ∷ plain (codes "]") ∷ [])) ≡ true
+bracket_is = refl
+
+bracket_in_an_argument_is_not : is_built (one (plain (codes "echo") ∷ plain (codes "[") ∷ [])) ≡ false
+bracket_in_an_argument_is_not = refl
 
 quoted_name_is_not : is_built (one (record { parts = Single (codes "echo") ∷ [] } ∷ [])) ≡ false
 quoted_name_is_not = refl

@@ -1,4 +1,4 @@
--- Which scripts are built: commands one after another, each of a utility that is built, whose words need no expansion.
+-- Which scripts are built: commands one after another, each of a utility that is built, whose arguments need no expansion.
 use Rattle.std.specs.Prelude.{ℕ, Bool, true, false, not, ◌&&◌, ◌||◌, List, [], ◌∷◌, nat_eq, is_some}
 use Rattle.std.specs.List.{list_all, list_any}
 use Rattle.sh_syntax.specs.declared.tree.Part.{Part, out-Part}
@@ -44,13 +44,17 @@ is_known_name [] = false
 is_known_name (p ∷ []) = is_known_part p
 is_known_name (_ ∷ _ ∷ _) = false
 
--- The first word is written plain, and is the name of a utility.
-abbrev pub is_known : List Word → Bool
-is_known [] = false
-is_known (name ∷ args) = is_known_name name.parts
+-- The first word is written plain, and is the name of a utility, `[` too; the others need no expansion.
+abbrev pub are_built_words : List Word → Bool
+are_built_words [] = false
+are_built_words (name ∷ args) = is_known_name name.parts && list_all is_built_word args
+
+-- no assignment stands before the words, and no redirection beside them
+abbrev pub is_bare : {A B : Type 0} → List A → List B → Bool
+is_bare assigns redirs = is_none assigns && is_none redirs
 
 abbrev pub is_built_command : Command → Bool
-is_built_command (Simple assigns words redirs) = is_none assigns && list_all is_built_word words && is_known words && is_none redirs
+is_built_command (Simple assigns words redirs) = is_bare assigns redirs && are_built_words words
 is_built_command _ = false
 
 -- one command, without `!`

@@ -2,10 +2,11 @@
 
 ghost use Rattle.std.specs.Prelude.{◌≡◌};
 ghost use Rattle.std.specs.List.{list_all, list_any};
-ghost use Rattle.sh_leaf.specs.Built.{is_alone, is_built, is_built_command, is_built_part, is_built_pipeline, is_built_word, is_inner, is_known, is_known_name, is_known_part, is_sequence, is_special, is_unjoined};
+ghost use Rattle.sh_leaf.specs.Built.{are_built_words, is_alone, is_bare, is_built, is_built_command, is_built_part, is_built_pipeline, is_built_word, is_inner, is_known_name, is_known_part, is_sequence, is_special, is_unjoined};
 
 use crate::utility::named;
-use sh_syntax::{AndOr, Command, List, Part, Pipeline, Script, Word};
+use hs_text::Text;
+use sh_syntax::{AndOr, Command, List, Part, Pipeline, Redir, Script, Word};
 
 fn is_special(byte: u8) -> bool
     ensures { result ≡ is_special byte }
@@ -50,10 +51,10 @@ fn is_built_word(word: &Word) -> bool
     word.parts.as_slice().iter().all(|part| is_built_part(part))
 }
 
-fn are_built_words(words: &[Word]) -> bool
-    ensures { result ≡ list_all is_built_word words.now }
+fn are_built_args(args: &[Word]) -> bool
+    ensures { result ≡ list_all is_built_word args.now }
 {
-    words.iter().all(|word| is_built_word(word))
+    args.iter().all(|word| is_built_word(word))
 }
 
 /// Whether this part is the plain name of a utility that is built.
@@ -75,13 +76,21 @@ fn is_known_name(parts: &[Part]) -> bool
     }
 }
 
-fn is_known(words: &[Word]) -> bool
-    ensures { result ≡ is_known words.now }
+/// Whether the first word is the plain name of a utility that is built, and the others need no expansion.
+fn are_built_words(words: &[Word]) -> bool
+    ensures { result ≡ are_built_words words.now }
 {
     match words {
-        [name, ..] => is_known_name(name.parts.as_slice()),
+        [name, args @ ..] => is_known_name(name.parts.as_slice()) && are_built_args(args),
         [] => false,
     }
+}
+
+/// Whether no assignment stands before the words of a command, and no redirection beside them.
+fn is_bare(assigns: &[(Text, Word)], redirs: &[Redir]) -> bool
+    ensures { result ≡ is_bare assigns.now redirs.now }
+{
+    assigns.is_empty() && redirs.is_empty()
 }
 
 fn is_built_command(command: &Command) -> bool
@@ -92,12 +101,7 @@ fn is_built_command(command: &Command) -> bool
             assigns,
             words,
             redirs,
-        } => {
-            assigns.is_empty()
-                && are_built_words(words.as_slice())
-                && is_known(words.as_slice())
-                && redirs.is_empty()
-        }
+        } => is_bare(assigns.as_slice(), redirs.as_slice()) && are_built_words(words.as_slice()),
         _ => false,
     }
 }
@@ -142,7 +146,7 @@ fn are_built_pipelines(leaves: &[Pipeline]) -> bool
 }
 
 /// Whether the whole script is of the forms that run: commands one after another, each with the plain name of a utility that is
-/// built in front, whose words are plain bytes, quoted ones, or both, without a pattern or a tilde outside quotes.
+/// built in front, whose arguments are plain bytes, quoted ones, or both, without a pattern or a tilde outside quotes.
 pub fn built(script: &Script) -> bool
     ensures { result ≡ is_built script.now }
 {

@@ -1,0 +1,9 @@
+mod Counted
+mod Examples
+mod Formatted
+mod Leading
+mod Named
+mod Padded
+mod Parsed
+mod Printed
+mod Rounds

@@ -1,0 +1,17 @@
+pub mod ByteClass
+pub mod ByteSet
+pub mod Comparing
+pub mod Decimals
+pub mod Filing
+pub mod FixedLines
+pub mod Fronts
+pub mod Gathering
+pub mod Merging
+pub mod Orders
+pub mod Runs
+pub mod Selecting
+pub mod Sorting
+pub mod Splitting
+pub mod Translating
+pub mod Transliterate
+pub mod Uniquing
