@@ -4,6 +4,7 @@ pub mod Copied
 pub mod Signs
 pub mod Sliced
 pub mod Lined
+pub mod Newlines
 pub mod Words
 pub mod Folds
 pub mod Digits

@@ -1,11 +1,14 @@
 -- The sums of `wc`.
-use Rattle.std.proofs.Common.{◌≡◌, ℕ, zero, suc, ◌+◌, ◌*◌, ◌-◌, ◌^◌, ◌<◌, ◌≤◌, min, Bool, true, false, List, [], ◌∷◌, ◌++◌, length, get_or, refl, sym, ap, ◌∙◌, cond, not, arith}
+use Rattle.std.proofs.Common.{◌≡◌, ℕ, zero, suc, ◌+◌, ◌*◌, ◌-◌, ◌^◌, ◌<◌, ◌≤◌, min, Bool, true, false, List, [], ◌∷◌, ◌++◌, Option, length, get_or, refl, sym, ap, ◌∙◌, cond, not, arith}
 use Rattle.std.specs.Prelude.{◌&&◌, ◌==◌}
-use Rattle.std.specs.List.{All, sum_by}
+use Rattle.std.specs.List.{All, join_with_byte, sum_by}
 use Rattle.std.proofs.lemmas.List.{length_push}
 use Rattle.std.proofs.lemmas.List.Elements.{All-append}
 use Rattle.std.proofs.lemmas.List.Sums.{sum_by_push, sum_by-le}
-use Rattle.util_text.specs.Counting.{newline, newlines, words, is_space, ends_word, counts, total, plus, capped}
+use Rattle.util_text.specs.Counting.{newline, newlines, words, is_space, ends_word, counts, total, plus, capped, without_words}
+use Rattle.util_text.specs.Tallying.{has_words}
+use Rattle.util_text.specs.Wc.{counts_line, named, or_all, where_chosen}
+use Rattle.util_text.specs.declared.chosen.Chosen.{Chosen}
 use Rattle.util_text.specs.declared.counting.Counts.{Counts}
 
 abbrev pub made : ℕ → ℕ → ℕ → Counts
@@ -31,6 +34,29 @@ sum_more sum before content bytes one more s b o m =
     ∙ same_counts _ _ _ _ _ _ (capped_twice (total before).lines k.lines sum.lines (ap (λ (x : Counts). x.lines) s))
     (capped_twice (total before).words k.words sum.words (ap (λ (x : Counts). x.words) s)) (capped_twice (total before).bytes k.bytes sum.bytes (ap (λ (x : Counts). x.bytes) s))
     ∙ ap capped (sym (more_total before content))
+
+-- ---- words that are not written are not counted
+
+unwritten : (written : Bool) (m n : ℕ) → written ≡ false → where_chosen written m ≡ where_chosen written n
+unwritten written m n h = ap (λ (b : Bool). where_chosen b m) h ∙ ap (λ (b : Bool). where_chosen b n) (sym h)
+
+pub line_without_words : (chosen : Chosen) (counts : Counts) (name : Option (List ℕ)) → has_words chosen ≡ false → counts_line chosen (without_words counts) name ≡ counts_line chosen counts name
+line_without_words chosen counts name h =
+    let all = or_all chosen in
+    ap (λ (words : List (List ℕ)). join_with_byte 32 (where_chosen all.lines counts.lines ++ (words ++ where_chosen all.bytes counts.bytes)) ++ named name) (unwritten all.words 0 counts.words h)
+
+no_words : (x : ℕ) → x ≡ 0 → min (x + 0) (2 ^ 128 - 1) ≡ 0
+no_words x e = omega arith
+
+pub lines_more : (sum : Counts) (before : List (List ℕ)) (content bytes : List ℕ) (one more : Counts) → sum ≡ without_words (capped (total before)) → bytes ≡ content → one ≡ without_words (counts bytes) → more ≡ capped (plus sum one)
+    → more ≡ without_words (capped (total (before ++ content ∷ [])))
+lines_more sum before content bytes one more s b o m =
+    let k = counts content in
+    m
+    ∙ ap (λ (x : Counts). capped (plus sum x)) (o ∙ ap (λ (x : List ℕ). without_words (counts x)) b)
+    ∙ same_counts _ _ _ _ _ _ (capped_twice (total before).lines k.lines sum.lines (ap (λ (x : Counts). x.lines) s))
+    (no_words sum.words (ap (λ (x : Counts). x.words) s)) (capped_twice (total before).bytes k.bytes sum.bytes (ap (λ (x : Counts). x.bytes) s))
+    ∙ ap (λ (x : Counts). without_words (capped x)) (sym (more_total before content))
 
 short_one : (content : List ℕ) → length content < 2 ^ 63 → All (λ (x : List ℕ). length x < 2 ^ 63) (content ∷ [])
 short_one content h zero d l = h

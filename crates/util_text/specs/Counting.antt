@@ -27,6 +27,10 @@ words (b ∷ bs) = (if not (is_space b) && ends_word bs then 1 else 0) + words b
 abbrev pub counts : List ℕ → Counts
 counts text = record { lines = newlines text; words = words text; bytes = length text }
 
+-- the counts but for the words, which are left at none
+abbrev pub without_words : Counts → Counts
+without_words counts = record { lines = counts.lines; words = 0; bytes = counts.bytes }
+
 -- ---- several texts
 
 -- the sum of each count over the texts

@@ -9,10 +9,11 @@ use Rattle.util_common.specs.Operands.{Progress, Writer, emitted, none_yet, oper
 use Rattle.util_common.specs.Words.{is_given, words_of}
 use Rattle.util_common.specs.declared.messages.Why.{Why}
 use Rattle.util_opts.specs.declared.options.Options.{Options}
-use Rattle.util_text.specs.Counting.{capped, counts, total}
+use Rattle.util_text.specs.Counting.{capped, counts, total, without_words}
 use Rattle.util_text.specs.Head.{is_several}
-use Rattle.util_text.specs.Wc.{counts_line}
+use Rattle.util_text.specs.Wc.{counts_line, or_all}
 use Rattle.util_text.specs.declared.counting.Counts.{Counts}
+use Rattle.util_text.specs.declared.tallying.LineTally.{LineTally}
 use Rattle.util_text.specs.declared.tallying.Tally.{Tally}
 use Rattle.util_text.specs.declared.chosen.Chosen.{Chosen}
 
@@ -57,8 +58,19 @@ wc args w = wc_by (words_of wc_options args) w
 
 -- ---- what the code keeps of it
 
+-- words are written: they are chosen, or nothing is
+abbrev pub has_words : Chosen → Bool
+has_words chosen = (or_all chosen).words
+
 -- The filter writes so, and has the sum over these contents, each as long as a slice can be.
 pub record Tallying (filter : Tally) (text : Writer) (before : List (List ℕ)) : Type 0 where
   pub is : text ≡ tallies filter.chosen filter.named
   pub short : All (λ content. length content < 2 ^ 63) before
   pub sum : filter.total ≡ capped (total before)
+
+-- So does the one that counts no words, since none are written, and it has the other sums.
+pub record LineTallying (filter : LineTally) (text : Writer) (before : List (List ℕ)) : Type 0 where
+  pub is : text ≡ tallies filter.chosen filter.named
+  pub unwritten : has_words filter.chosen ≡ false
+  pub short : All (λ content. length content < 2 ^ 63) before
+  pub sum : filter.total ≡ without_words (capped (total before))

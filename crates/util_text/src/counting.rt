@@ -3,6 +3,8 @@
 ghost use Rattle.std.specs.Prelude.{◌≡◌};
 ghost use Rattle.util_text.specs.Counting as spec;
 
+use memchr::memchr_iter;
+
 /// Newlines, words and bytes of a text, or of several: they are wide enough for any number of texts.
 #[derive(Clone, Copy, Debug, PartialEq, Eq)]
 pub struct Counts {
@@ -54,6 +56,24 @@ pub fn count(text: &[u8]) -> Counts
     Counts {
         lines: lines as u128,
         words: words as u128,
+        bytes: text.len() as u128,
+    }
+}
+
+/// How many newlines a text has.
+fn count_newlines(text: &[u8]) -> usize
+    ensures { result ≡ spec.newlines text.now }
+{
+    memchr_iter(b'\n', text).count()
+}
+
+/// The newlines and bytes of a text, whose words are not counted: it takes a fraction of the time of all counts.
+pub fn count_lines(text: &[u8]) -> Counts
+    ensures { result ≡ spec.without_words (spec.counts text.now) }
+{
+    Counts {
+        lines: count_newlines(text) as u128,
+        words: 0,
         bytes: text.len() as u128,
     }
 }

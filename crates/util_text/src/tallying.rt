@@ -1,12 +1,12 @@
 //! `wc` (POSIX.1-2017, XCU, `wc`).
 
-ghost use Rattle.std.specs.Prelude.{◌≡◌, Ok, Err, IfOk, option_copied};
+ghost use Rattle.std.specs.Prelude.{◌≡◌, true, false, Ok, Err, IfOk, option_copied};
 ghost use Rattle.hs_view.specs.Acts.{Acts};
 ghost use Rattle.util_text.specs.Tallying as spec;
 ghost use Rattle.util_text.specs.Wc.{counts_line};
 
 use crate::chosen::{Chosen, write_counts};
-use crate::counting::{Counts, count, sum};
+use crate::counting::{Counts, count, count_lines, sum};
 use crate::heading::is_several;
 use hs_text::{Text, TextList};
 use hs_view::{Base, Halt, View};
@@ -14,6 +14,13 @@ use hs_world::Fd;
 use std::alloc::{AllocError, Global};
 use util_common::{Filter, emit, filter_files, is_given, read_words, refuse_words};
 use util_opts::{GivenList, Options};
+
+/// The counts of no text.
+const NONE: Counts = Counts {
+    lines: 0,
+    words: 0,
+    bytes: 0,
+};
 
 /// The line of the counts of each content, and the sum of the counts so far.
 #[derive(Drop)]
@@ -32,6 +39,29 @@ impl Filter for Tally {
 
     fn filter(&mut self, word: &Text, content: Text) -> Result<Text, AllocError> {
         let counts = count(content.as_slice());
+        let line = line_of(self.alloc, &self.chosen, &counts, name_in(self.named, word))?;
+        self.total = sum(&self.total, &counts);
+        Ok(line)
+    }
+}
+
+/// The line of the counts of each content, where no words are written, and the sum of the other counts so far.
+#[derive(Drop)]
+pub struct LineTally {
+    pub alloc: Global,
+    pub chosen: Chosen,
+    /// Whether the line has the name of the operand.
+    pub named: bool,
+    pub total: Counts,
+}
+
+impl Filter for LineTally {
+    ghost use Rattle.util_text.specs.Tallying.{LineTallying};
+
+    ghost writes = { λ filter text before. LineTallying filter text before };
+
+    fn filter(&mut self, word: &Text, content: Text) -> Result<Text, AllocError> {
+        let counts = count_lines(content.as_slice());
         let line = line_of(self.alloc, &self.chosen, &counts, name_in(self.named, word))?;
         self.total = sum(&self.total, &counts);
         Ok(line)
@@ -95,8 +125,15 @@ fn write_sum<B: Base>(
     emit(Fd::One, line, status, view)
 }
 
+/// Whether words are written: they are chosen, or nothing is.
+fn has_words(chosen: &Chosen) -> bool
+    ensures { result ≡ spec.has_words chosen.now }
+{
+    chosen.words || !(chosen.lines || chosen.words || chosen.bytes)
+}
+
 /// Writes the counts of the operands, and their sum.
-fn tally_files<B: Base>(
+fn tally_words<B: Base>(
     alloc: Global,
     chosen: Chosen,
     operands: TextList,
@@ -106,19 +143,52 @@ fn tally_files<B: Base>(
 {
     let several = is_several(&operands);
     let named = has_operand(operands.as_slice());
-    let total = Counts {
-        lines: 0,
-        words: 0,
-        bytes: 0,
-    };
     let mut tally = Tally {
         alloc,
         chosen,
         named,
-        total,
+        total: NONE,
     };
     let status = filter_files(alloc, b"wc", operands, &mut tally, view)?;
     write_sum(alloc, &chosen, several, &tally.total, status, view)
+}
+
+/// Writes the counts of the operands, and their sum, where no words are written.
+fn tally_lines<B: Base>(
+    alloc: Global,
+    chosen: Chosen,
+    operands: TextList,
+    view: &mut View<B>,
+) -> Result<u8, Halt>
+    requires { spec.has_words chosen ≡ false }
+    ensures { Acts B.seen (spec.tallies_written chosen operands) view.old view.new result }
+{
+    let several = is_several(&operands);
+    let named = has_operand(operands.as_slice());
+    let mut tally = LineTally {
+        alloc,
+        chosen,
+        named,
+        total: NONE,
+    };
+    let status = filter_files(alloc, b"wc", operands, &mut tally, view)?;
+    write_sum(alloc, &chosen, several, &tally.total, status, view)
+}
+
+/// Writes the counts of the operands, and their sum. Words are counted only where they are written.
+fn tally_files<B: Base>(
+    alloc: Global,
+    chosen: Chosen,
+    operands: TextList,
+    view: &mut View<B>,
+) -> Result<u8, Halt>
+    ensures { Acts B.seen (spec.tallies_written chosen operands) view.old view.new result }
+{
+    if has_words(&chosen) {
+        tally_words(alloc, chosen, operands, view)
+    } else {
+        tally_lines(alloc, chosen, operands, view)
+    }
 }
 
 /// Writes the newlines, words and bytes of each operand, or those of them that `-l`, `-w` and `-c` choose, and its name. Where
