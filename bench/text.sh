@@ -6,11 +6,7 @@ cd "$(dirname "$0")/.." || exit 1
 rounds=${1:-3}
 series=3
 . bench/timing.sh
-LC_ALL=C
-export LC_ALL
-
-folder=$(mktemp -d) || exit 1
-trap 'rm -r "$folder"' EXIT
+in_a_folder
 measuring
 
 size=100000000

@@ -27,3 +27,11 @@ measuring() {
     best_of "$program" match a a 1
     start=$best
 }
+
+# Sets `folder` to a new folder, which goes when the script ends, and takes the C locale.
+in_a_folder() {
+    LC_ALL=C
+    export LC_ALL
+    folder=$(mktemp -d) || exit 1
+    trap 'rm -r "$folder"' EXIT
+}

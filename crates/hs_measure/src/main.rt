@@ -18,6 +18,10 @@
 //!
 //! runs a script over so many files `f0`, `f1` and so on, each of so many bytes, and prints how many bytes it writes.
 //!
+//!     hs_measure over FILE SCRIPT
+//!
+//! does so over one file `f0`, with the bytes of a file, which are standard input too.
+//!
 //! Each of the others prints how many effects, entries or reads came, or comparisons said yes.
 #![tactic(auto)]
 
@@ -91,6 +95,11 @@ fn main(rt: HostRuntime) -> anyhow::Result<()> {
             let answer = runs::run(rt.alloc(), files, bytes, script.as_bytes())?;
             println!(rt; "{answer}")?;
         }
+        [kind, file, script] if kind.as_str() == "over" => {
+            let bytes = fs::read(&rt, file.as_str())?;
+            let answer = runs::over(rt.alloc(), &bytes, script.as_bytes())?;
+            println!(rt; "{answer}")?;
+        }
         [kind, file] if kind.as_str() == "parse" => {
             let text = fs::read(&rt, file.as_str())?;
             let count = leaves(rt.alloc(), &text)?;
@@ -102,7 +111,7 @@ fn main(rt: HostRuntime) -> anyhow::Result<()> {
             println!(rt; "{answer}")?;
         }
         _ => bail!(
-            "usage: hs_measure match PATTERN PIECE COUNT, hs_measure run FILES BYTES SCRIPT, hs_measure parse FILE, or hs_measure WORK COUNT"
+            "usage: hs_measure match PATTERN PIECE COUNT, hs_measure run FILES BYTES SCRIPT, hs_measure over FILE SCRIPT, hs_measure parse FILE, or hs_measure WORK COUNT"
         ),
     }
     Ok(())

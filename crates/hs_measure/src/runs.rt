@@ -108,15 +108,15 @@ fn written(alloc: Global, script: Arc<Script>, world: World) -> Option<u64>
     }
 }
 
-fn begin(alloc: Global, tree: Tree) -> Option<World> {
-    let (zero, params, input) = (Text::new(alloc), TextList::new(alloc), Text::new(alloc));
+fn begin(alloc: Global, tree: Tree, input: Text) -> Option<World> {
+    let (zero, params) = (Text::new(alloc), TextList::new(alloc));
     World::new(alloc, tree, Vec::new(alloc), zero, params, input, LIMITS).ok()
 }
 
-fn run_over(alloc: Global, script: Arc<Script>, tree: Tree) -> Option<u64>
+fn run_over(alloc: Global, script: Arc<Script>, tree: Tree, input: Text) -> Option<u64>
     requires { is_built (arc_value script) ≡ true }
 {
-    match begin(alloc, tree) {
+    match begin(alloc, tree, input) {
         Some(world) => written(alloc, script, world),
         None => {
             drop(script);
@@ -125,25 +125,37 @@ fn run_over(alloc: Global, script: Arc<Script>, tree: Tree) -> Option<u64>
     }
 }
 
-fn run_files(alloc: Global, script: Arc<Script>, count: u32, text: &Text) -> Option<u64>
+fn run_files(
+    alloc: Global,
+    script: Arc<Script>,
+    count: u32,
+    text: &Text,
+    input: Text,
+) -> Option<u64>
     requires { is_built (arc_value script) ≡ true }
 {
     let mut tree = Tree::new(alloc);
     if fill(alloc, &mut tree, count, text) {
-        return run_over(alloc, script, tree);
+        return run_over(alloc, script, tree, input);
     }
     drop(script);
     drop(tree);
     None
 }
 
-fn run_script(alloc: Global, script: Script, count: u32, text: &Text) -> anyhow::Result<u64> {
+fn run_script(
+    alloc: Global,
+    script: Script,
+    count: u32,
+    text: &Text,
+    input: Text,
+) -> anyhow::Result<u64> {
     if !built(&script) {
         drop(script);
         bail!("the script is not built");
     }
     match Arc::new(alloc, script) {
-        Ok(script) => run_files(alloc, script, count, text).context("the run did not end"),
+        Ok(script) => run_files(alloc, script, count, text, input).context("the run did not end"),
         Err(error) => Err(error.into()),
     }
 }
@@ -152,7 +164,18 @@ fn run_script(alloc: Global, script: Script, count: u32, text: &Text) -> anyhow:
 pub fn run(alloc: Global, count: u32, size: u32, text: &[u8]) -> anyhow::Result<u64> {
     let content = lines(alloc, size)?;
     match parse(alloc, text) {
-        Ok(script) => run_script(alloc, script, count, &content),
+        Ok(script) => run_script(alloc, script, count, &content, Text::new(alloc)),
+        Err(_) => bail!("the text spells no script"),
+    }
+}
+
+/// Runs a script over the file `f0` with these bytes, which are standard input too, and answers how many bytes it wrote on standard
+/// output.
+pub fn over(alloc: Global, bytes: &[u8], text: &[u8]) -> anyhow::Result<u64> {
+    let content = Text::from_slice(alloc, bytes)?;
+    let input = content.clone()?;
+    match parse(alloc, text) {
+        Ok(script) => run_script(alloc, script, 1, &content, input),
         Err(_) => bail!("the text spells no script"),
     }
 }
