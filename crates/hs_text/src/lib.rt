@@ -2,6 +2,7 @@
 //! quoted.
 #![tactic(auto)]
 
+mod block;
 mod field;
 mod list;
 mod short;

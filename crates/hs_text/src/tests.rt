@@ -33,3 +33,20 @@ fn lists_grow_at_the_end(rt: HostRuntime) -> Result<(), Fail> {
     assert_eq!(rt; field.as_slice().len(), 1);
     Ok(())
 }
+
+#[test]
+fn parts_are_the_bytes_between_two_places(rt: HostRuntime) -> Result<(), Fail> {
+    let alloc = rt.alloc();
+    let mut text = Text::new(alloc);
+    for _ in 0..10 {
+        text.extend(b"0123456789")?;
+    }
+    assert_eq!(rt; text.len(), 100);
+    let mut part = text.part(41, 100)?;
+    assert_eq!(rt; part.len(), 59);
+    assert!(rt; part.clone()?.part(2, 5)?.as_slice() == b"345".as_slice());
+    assert!(rt; part.part(9, 59)?.as_slice() == text.part(50, 100)?.as_slice());
+    part.extend(b"!")?;
+    assert_eq!(rt; part.len(), 60);
+    Ok(())
+}

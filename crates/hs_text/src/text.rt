@@ -1,17 +1,16 @@
-//! Bytes that contracts see as a list. A clone shares them, and a change of shared bytes copies them first. A few bytes
-//! are held in place. A clone costs the same at any length; `extend` is amortised O(what is added) where no other text
-//! shares the bytes, and copies them once where one does.
-ghost use Rattle.std.specs.Prelude.{◌≡◌, ◌↔◌, ℕ, List, [], ◌∷◌, ◌++◌, length, IfOk, OnOk, OnErr, IsTrue, Some, nat_eq, refl, option_copied};
+//! Bytes that contracts see as a list. A clone shares them, a large part too, and a change of shared bytes copies them first. A
+//! few bytes are held in place. A clone costs the same at any length; `extend` is amortised O(what is added) where no other
+//! text shares the bytes, and copies them once where one does.
+ghost use Rattle.std.specs.Prelude.{◌≡◌, ◌↔◌, ℕ, List, [], ◌∷◌, ◌++◌, ◌-◌, ◌≤◌, length, take, drop, IfOk, OnOk, OnErr, IsTrue, Some, nat_eq, refl, option_copied};
 ghost use Rattle.std.specs.Ordering.{nat_cmp};
 ghost use Rattle.std.specs.Cmp.Lexicographic.{pointwise, slice_cmp, nat_list_eq_equiv, nat_list_cmp_total, texts_ties, texts_po};
 ghost use Rattle.std.specs.Cmp.{partial_equiv_from_equiv};
-ghost use Rattle.std.specs.Arc.{arc_value};
 
+use crate::block::Block;
 use crate::short::Short;
 use std::alloc::{AllocError, Global};
 use std::cmp::Ordering;
 use std::marker::Model;
-use std::sync::Arc;
 
 /// A text of bytes. Up to 22 bytes take no memory but the text's own.
 #[derive(Drop)]
@@ -23,7 +22,7 @@ pub struct Text {
 #[derive(Drop)]
 enum Held {
     Inline(Short),
-    Shared(Arc<Vec<u8>>),
+    Shared(Block),
 }
 
 impl Model for Text {
@@ -56,8 +55,7 @@ impl Text {
                 held: Held::Inline(short),
             });
         }
-        let bytes = Vec::from_slice(alloc, bytes)?;
-        let block = Arc::new(alloc, bytes)?;
+        let block = Block::new(alloc, Vec::from_slice(alloc, bytes)?)?;
         Ok(Text {
             alloc,
             held: Held::Shared(block),
@@ -75,7 +73,7 @@ impl Text {
                 held: Held::Inline(short),
             });
         }
-        let block = Arc::new(alloc, bytes)?;
+        let block = Block::new(alloc, bytes)?;
         Ok(Text {
             alloc,
             held: Held::Shared(block),
@@ -94,10 +92,7 @@ impl Text {
     pub fn len(&self) -> usize
         ensures { result ≡ length self.now }
     {
-        match &self.held {
-            Held::Inline(short) => short.len(),
-            Held::Shared(block) => block.len(),
-        }
+        self.as_slice().len()
     }
 
     pub fn is_empty(&self) -> bool
@@ -113,6 +108,26 @@ impl Text {
         self.as_slice() == other.as_slice()
     }
 
+    /// The bytes from one place up to another. They are shared where they are at least half of what the text shares with others,
+    /// and else copied.
+    pub fn part(&self, from: usize, to: usize) -> Result<Text, AllocError>
+        requires ordered { from ≤ to }
+        requires within { to ≤ length self.now }
+        ensures { IfOk result (λ part. part ≡ take (to - from) (drop from self.now)) }
+    {
+        let part = match &self.held {
+            Held::Inline(_) => None,
+            Held::Shared(block) => block.shared(from, to - from)?,
+        };
+        match part {
+            Some(part) => Ok(Text {
+                alloc: self.alloc,
+                held: Held::Shared(part),
+            }),
+            None => Text::from_slice(self.alloc, &self.as_slice()[from..to]),
+        }
+    }
+
     /// Puts bytes behind the text. Where there is no memory, the text stays.
     pub fn extend(&mut self, more: &[u8]) -> Result<(), AllocError>
         ensures ok { OnOk result (self.new ≡ self.old ++ more.now) }
@@ -126,11 +141,11 @@ impl Text {
                 if short.push(more) {
                     return Ok(());
                 }
-                let block = joined(self.alloc, short.as_slice(), more)?;
+                let block = Block::joined(self.alloc, short.as_slice(), more)?;
                 self.held = Held::Shared(block);
                 Ok(())
             }
-            Held::Shared(block) => extend_block(self.alloc, block, more),
+            Held::Shared(block) => block.extend(self.alloc, more),
         }
     }
 }
@@ -156,34 +171,13 @@ pub fn copied(text: Option<&Text>) -> Result<Option<Text>, AllocError>
     }
 }
 
-fn extend_block(alloc: Global, block: &mut Arc<Vec<u8>>, more: &[u8]) -> Result<(), AllocError>
-    ensures ok { OnOk result ((arc_value block.new).items ≡ (arc_value block.old).items ++ more.now) }
-    ensures err { OnErr result ((arc_value block.new).items ≡ (arc_value block.old).items) }
-{
-    match Arc::get_mut(block) {
-        Some(bytes) => return bytes.extend_from_slice(more),
-        None => {}
-    }
-    *block = joined(alloc, block.as_slice(), more)?;
-    Ok(())
-}
-
-fn joined(alloc: Global, front: &[u8], more: &[u8]) -> Result<Arc<Vec<u8>>, AllocError>
-    ensures { IfOk result (λ block. (arc_value block).items ≡ front.now ++ more.now) }
-{
-    let mut whole = Vec::with_capacity(alloc, front.len() + more.len())?;
-    whole.extend_from_slice(front)?;
-    whole.extend_from_slice(more)?;
-    Ok(Arc::new(alloc, whole)?)
-}
-
 impl Clone for Text {
     ghost is_clone = { λ x y. y ≡ x };
 
     fn clone(&self) -> Result<Text, AllocError> {
         let held = match &self.held {
             Held::Inline(short) => Held::Inline(short.copy()),
-            Held::Shared(block) => Held::Shared(Arc::try_clone(block)?),
+            Held::Shared(block) => Held::Shared(block.copy()?),
         };
         Ok(Text {
             alloc: self.alloc,

@@ -3,6 +3,7 @@ pub mod Pieces
 pub mod Copied
 pub mod Signs
 pub mod Sliced
+pub mod Suffixes
 pub mod Lined
 pub mod Newlines
 pub mod Words

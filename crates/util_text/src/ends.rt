@@ -1,6 +1,6 @@
 //! The first and the last lines of a text (POSIX.1-2017, XCU, `head` and `tail`), as the bytes that they are.
 
-ghost use Rattle.std.specs.Prelude.{◌≡◌, ℕ, true, false, None, Some, drop, IfOk, IfErr, MatchOption};
+ghost use Rattle.std.specs.Prelude.{◌≡◌, ℕ, true, false, None, Some, ◌≤◌, length, drop, IfOk, IfErr, MatchOption};
 ghost use Rattle.util_text.specs.Lines as spec;
 ghost use Rattle.util_text.specs.Count.{StandsFor};
 ghost use Rattle.util_text.specs.Tail.{AreEnds, begins, ends_of, tail};
@@ -8,6 +8,8 @@ ghost use Rattle.util_text.specs.Tail.{AreEnds, begins, ends_of, tail};
 use crate::fault::TextErr;
 use crate::line::{last_start, line_len};
 use crate::number::read_count;
+use hs_text::Text;
+use std::alloc::AllocError;
 
 /// The first lines, so many. Its time is linear in what it answers.
 pub fn first_lines(text: &[u8], count: usize) -> &[u8]
@@ -99,4 +101,19 @@ pub fn tail(text: &[u8], ends: Ends) -> &[u8]
         Ends::Last(count) => last_lines(text, count),
         Ends::From(number) => lines_from(text, number),
     }
+}
+
+/// Where the lines that `tail` copies begin: they go to the end of the text.
+fn tail_start(text: &[u8], ends: Ends) -> usize
+    ensures within { result ≤ length text.now }
+    ensures lines { (exact : Ends) → AreEnds ends exact → drop result text.now ≡ tail exact text.now }
+{
+    text.len().saturating_sub(tail(text, ends).len())
+}
+
+/// The lines that `tail` copies. They share the bytes of the content where they are half of them at least.
+pub fn tail_part(content: &Text, ends: Ends) -> Result<Text, AllocError>
+    ensures { (exact : Ends) → AreEnds ends exact → IfOk result (λ lines. lines ≡ tail exact content.now) }
+{
+    content.part(tail_start(content.as_slice(), ends), content.len())
 }

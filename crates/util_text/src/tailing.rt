@@ -7,7 +7,7 @@ ghost use Rattle.util_text.specs.Numbers.{RefusesNumber};
 ghost use Rattle.util_text.specs.Tail.{AreEnds, ends_of};
 ghost use Rattle.util_text.specs.Tailing as spec;
 
-use crate::ends::{self, Ends, read_ends};
+use crate::ends::{Ends, read_ends, tail_part};
 use crate::heading::is_several;
 use hs_text::{Text, TextList};
 use hs_view::{Base, Halt, View};
@@ -18,7 +18,6 @@ use util_opts::{GivenList, Options};
 /// The last lines of each content, or those from a line on.
 #[derive(Drop)]
 pub struct Tails {
-    pub alloc: Global,
     pub ends: Ends,
 }
 
@@ -28,7 +27,7 @@ impl Filter for Tails {
     ghost writes = { λ filter text before. Tailing filter text };
 
     fn filter(&mut self, _word: &Text, content: Text) -> Result<Text, AllocError> {
-        Text::from_slice(self.alloc, ends::tail(content.as_slice(), self.ends))
+        tail_part(&content, self.ends)
     }
 }
 
@@ -66,7 +65,7 @@ fn tail_file<B: Base>(
     if is_several(&operands) {
         return refuse(alloc, b"tail", Why::ExtraOperand, view);
     }
-    let mut tails = Tails { alloc, ends };
+    let mut tails = Tails { ends };
     filter_files(alloc, b"tail", operands, &mut tails, view)
 }
 
