@@ -1,14 +1,18 @@
--- Newlines, counted by the places where they stand.
-use Rattle.std.proofs.Common.{◌≡◌, ℕ, ◌+◌, Bool, true, false, cond, List, [], ◌∷◌, length, refl, sym, ◌∙◌, arith}
+-- Newlines, counted piece by piece.
+use Rattle.std.proofs.Common.{◌≡◌, ℕ, ◌+◌, ◌≤◌, Bool, true, false, cond, List, [], ◌∷◌, ◌++◌, length, sym, ap, ◌∙◌, arith}
+use Rattle.std.proofs.Math.Nat.{add_assoc}
 use Rattle.std.specs.Prelude.{◌==◌}
-use Rattle.std.proofs.lemmas.List.Recursion.{is_count_by}
-use Rattle.memchr.specs.Find.{is_byte, places}
-use Rattle.memchr.proofs.lemmas.CallerLemmas.{length-places}
-use Rattle.util_text.specs.Counting.{newlines}
+use Rattle.util_text.specs.Counting.{newline, newlines}
 
-step : (is : Bool) (n : ℕ) → cond is 1 0 + n ≡ cond is (1 + n) n
-step true n = refl
-step false n = omega arith
+pub newlines_append : (front back : List ℕ) → newlines (front ++ back) ≡ newlines front + newlines back
+newlines_append [] back = omega arith
+newlines_append (b ∷ bs) back = ap (λ (n : ℕ). newline b + n) (newlines_append bs back) ∙ sym (add_assoc (newline b) (newlines bs) (newlines back))
 
-pub newlines_counted : (text : List ℕ) → length (places (is_byte 10) text) ≡ newlines text
-newlines_counted text = length-places (is_byte 10) text ∙ sym (is_count_by newlines (is_byte 10) refl (λ b bs. step (b == 10) (newlines bs)) text)
+one_at_most : (is : Bool) → cond is 1 0 ≤ 1
+one_at_most true = omega arith
+one_at_most false = omega arith
+
+-- no text has more newlines than bytes
+pub newlines_within : (text : List ℕ) → newlines text ≤ length text
+newlines_within [] = omega arith
+newlines_within (b ∷ bs) = omega (arith, one_at_most (b == 10), newlines_within bs)

@@ -1,9 +1,7 @@
 //! The counts of `wc` (POSIX.1-2017, XCU, `wc`).
 
-ghost use Rattle.std.specs.Prelude.{◌≡◌};
+ghost use Rattle.std.specs.Prelude.{◌≡◌, ◌≤◌, length};
 ghost use Rattle.util_text.specs.Counting as spec;
-
-use memchr::memchr_iter;
 
 /// Newlines, words and bytes of a text, or of several: they are wide enough for any number of texts.
 #[derive(Clone, Copy, Debug, PartialEq, Eq)]
@@ -60,11 +58,30 @@ pub fn count(text: &[u8]) -> Counts
     }
 }
 
+/// So many bytes are counted at a time in 8 bits, and so many of them at once by one machine instruction.
+const PIECE: usize = 224;
+
+/// How many newlines a piece has.
+fn newlines_in(piece: &[u8]) -> u8
+    requires { length piece.now ≤ 255 }
+    ensures { result ≡ spec.newlines piece.now }
+{
+    let mut lines: u8 = 0;
+    'bytes: for byte in piece {
+        lines += u8::from(*byte == b'\n');
+    }
+    lines
+}
+
 /// How many newlines a text has.
 fn count_newlines(text: &[u8]) -> usize
     ensures { result ≡ spec.newlines text.now }
 {
-    memchr_iter(b'\n', text).count()
+    let mut lines: usize = 0;
+    'pieces: for piece in text.chunks(PIECE) {
+        lines += newlines_in(piece) as usize;
+    }
+    lines
 }
 
 /// The newlines and bytes of a text, whose words are not counted: it takes a fraction of the time of all counts.

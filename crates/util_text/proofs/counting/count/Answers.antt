@@ -1,4 +1,4 @@
-use Rattle.std.proofs.Common.{◌≡◌, [], drop, arith}
+use Rattle.std.proofs.Common.{drop, arith}
 use Rattle.std.proofs.lemmas.List.{drop_all}
 use Rattle.util_text.proofs.Words.{counts-done}
 use Rattle.util_text.proofs.counting.count.Goals as goal
