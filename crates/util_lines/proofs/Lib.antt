@@ -10,6 +10,7 @@ pub mod Lined
 pub mod LinesWritten
 pub mod Merged
 pub mod Occurring
+pub mod Plain
 pub mod Searched
 pub mod Splits
 pub mod Squeezed

@@ -1,6 +1,7 @@
 //! What `tr` makes of a text (POSIX.1-2017, XCU, `tr`), in one pass.
 
-ghost use Rattle.std.specs.Prelude.{◌≡◌, ◌++◌, IfOk, OnOk, option_to_list};
+ghost use Rattle.std.specs.Prelude.{◌≡◌, ◌++◌, ◌<◌, ℕ, None, map, IfOk, OnOk, option_to_list, slice_index_or, unwrap_or};
+ghost use Rattle.std.specs.List.{list_any};
 ghost use Rattle.util_lines.specs.Transliterate as spec;
 
 use crate::byte_table::{Images, Members, image_in, is_member};
@@ -48,8 +49,27 @@ fn push_some(out: &mut Vec<u8>, byte: Option<u8>) -> Result<(), AllocError>
     Ok(())
 }
 
+/// Whether a set has a byte.
+fn has_members(table: &Members) -> bool
+    ensures { result ≡ list_any (λ m. m) table.now }
+{
+    table.iter().any(|member| *member)
+}
+
+/// The text with each byte translated.
+fn translate(alloc: Global, images: &Images, text: &[u8]) -> Result<Vec<u8>, AllocError>
+    ensures images { IfOk result (λ out. out.items ≡ map (λ b. unwrap_or (slice_index_or images.now b None) b) text.now) }
+    ensures bytes { IfOk result (λ out. (i : ℕ) → slice_index_or out.items i 0 < 256) }
+{
+    let mut out = Vec::with_capacity(alloc, text.len())?;
+    'bytes: for byte in text {
+        out.push(image_in(images, *byte))?;
+    }
+    Ok(out)
+}
+
 /// The text with what is deleted left out, the others translated, and then runs squeezed.
-pub fn transliterate(alloc: Global, tables: &Tables, text: &[u8]) -> Result<Vec<u8>, AllocError>
+fn edit(alloc: Global, tables: &Tables, text: &[u8]) -> Result<Vec<u8>, AllocError>
     ensures { IfOk result (λ out. (job : spec.Job) → spec.StandFor tables.now job → out.items ≡ spec.transliterated job text.now) }
 {
     let mut out = Vec::with_capacity(alloc, text.len())?;
@@ -60,4 +80,14 @@ pub fn transliterate(alloc: Global, tables: &Tables, text: &[u8]) -> Result<Vec<
         last = image.or(last);
     }
     Ok(out)
+}
+
+/// The text with what is deleted left out, the others translated, and then runs squeezed.
+pub fn transliterate(alloc: Global, tables: &Tables, text: &[u8]) -> Result<Vec<u8>, AllocError>
+    ensures { IfOk result (λ out. (job : spec.Job) → spec.StandFor tables.now job → out.items ≡ spec.transliterated job text.now) }
+{
+    if has_members(&tables.deletes) || has_members(&tables.squeezes) {
+        return edit(alloc, tables, text);
+    }
+    translate(alloc, &tables.images, text)
 }
