@@ -320,6 +320,7 @@ pub fn plain<H: Host, O: Sink, E: Sink>(
         (record { out = O.written out.old; err = E.written err.old }) (record { out = O.written out.new; err = E.written err.new }) result.0 result.1 }
     ensures complete { IsComplete (Rose (O.faults out.old) (O.faults out.new)) (Rose (E.faults err.old) (E.faults err.new)) (Serial (arc_value script) world limits.turns []) result.0 }
     ensures files { H.files host.new ≡ H.files host.old }
+    ensures asked { H.calls host.new ≡ H.calls host.old }
     ensures host_later { H.faults host.old ≤ H.faults host.new }
     ensures out_later { O.faults out.old ≤ O.faults out.new }
     ensures err_later { E.faults err.old ≤ E.faults err.new }

@@ -14,7 +14,8 @@ use Rattle.sh_leaf.specs.Cut.{Serial}
 use Rattle.sh_leaf.specs.Built.{is_built}
 use Rattle.sh_syntax.specs.declared.fault.Fault.{Fault}
 use Rattle.hs_drive.specs.Ending.{IsTold}
-use Rattle.hs_main.specs.Top.{Asks, start, default_turns, IsRefused, IsUnbuilt, Parsed, IsScriptOf, Finds, FilesOf, IsLoaded, IsRun, RunsWords, IsCompleteFor, no_report}
+use Rattle.hs_outside.specs.Hosts.{one_more}
+use Rattle.hs_main.specs.Top.{AskNothing, Asks, IsAsked, start, default_turns, IsRefused, IsUnbuilt, Parsed, IsScriptOf, Finds, FilesOf, IsLoaded, IsRun, RunsWords, IsCompleteFor, no_report}
 use Rattle.hs_world.specs.World.{WorldData, Applied}
 use Rattle.sh_syntax.specs.declared.tree.Script.{Script}
 use Rattle.sh_grammar.specs.Spells.{Spells}
@@ -51,6 +52,14 @@ run-of host out err told words text text' s t ends report script script' w files
   built = built;
   runs = subst (λ (v : WorldData). Runs out err script v default_turns s t ends report) from (subst (λ (x : Script). Runs out err x w default_turns s t ends report) is runs);
 })
+
+-- ---- how often the host is asked
+
+pub asked_once : (words : List (List ℕ)) (text : List ℕ) (old asked new : Option ℕ) → Asks words text → asked ≡ one_more old → new ≡ asked → IsAsked words old new
+asked_once words text old asked new asks once still = record { once = λ other also. still ∙ once; never = λ none. absurd (none text asks) }
+
+pub asked_never : (words : List (List ℕ)) (old : Option ℕ) → AskNothing words → IsAsked words old old
+asked_never words old none = record { once = λ text asks. absurd (none text asks); never = λ also. refl }
 
 -- files that can't be loaded
 pub unloaded-of : (host host' out err : Type 0) (told : Option Files) (words : List (List ℕ)) (text : List ℕ) (s : Streams) (ends : Ending) → (host → host') →

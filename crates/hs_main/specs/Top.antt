@@ -1,5 +1,6 @@
 -- What the whole program does.
 use Rattle.std.specs.Prelude.{◌≡◌, ◌⊎◌, ℕ, ◌≤◌, List, [], ◌∷◌, ◌<◌, false, true, Option, Some, Result, Ok, Err, IfSome, length, codes}
+use Rattle.hs_outside.specs.Hosts.{one_more}
 use Rattle.hs_world.specs.Files.{Files, is_over}
 use Rattle.hs_world.specs.World.{WorldData, new_world}
 use Rattle.sh_syntax.specs.declared.tree.Script.{Script}
@@ -111,6 +112,11 @@ pub record IsEnded (told : Option Files) (words : List (List ℕ)) (ends : Endin
 -- the words hand over no text
 abbrev pub AskNothing : List (List ℕ) → Type 0
 AskNothing words = (text : List ℕ) → Asks words text → ⊥
+
+-- The host is asked once where the words hand over a text, and else not at all.
+pub record IsAsked (words : List (List ℕ)) (old new : Option ℕ) : Type 0 where
+  pub once : (text : List ℕ) → Asks words text → new ≡ one_more old
+  pub never : AskNothing words → new ≡ old
 
 -- The words hand over a text, and the host's files pass the limit of a tree.
 pub record IsTooLarge (told : Option Files) (words : List (List ℕ)) : Type 0 where

@@ -2,10 +2,11 @@
 
 ghost use Rattle.std.specs.Prelude.{◌≡◌, ◌≤◌, ℕ, List, IfOk, MatchOption, false};
 ghost use Rattle.hs_outside.specs.Causes.{Rose};
+ghost use Rattle.hs_outside.specs.Hosts.{one_more};
 ghost use Rattle.hs_world.specs.Files.{is_over};
 ghost use Rattle.hs_drive.specs.Ending.{IsTold, line_of, status_of, syntax_line_of};
 ghost use Rattle.hs_drive.specs.Commit.{Streams};
-ghost use Rattle.hs_main.specs.Top.{Asks, FilesOf, Finds, IsCompleteFor, Parsed, RunsWords, Tops, no_report, start};
+ghost use Rattle.hs_main.specs.Top.{Asks, FilesOf, Finds, IsAsked, IsCompleteFor, Parsed, RunsWords, Tops, no_report, start};
 
 use crate::gate::Gate;
 use hs_drive::{Ending, Report, plain, syntax_line};
@@ -108,6 +109,7 @@ fn built_script(alloc: Global, text: &[u8]) -> Result<Script, Ending>
 fn loaded<H: Host>(alloc: Global, host: &mut H) -> Result<Tree, Ending>
     ensures loaded { FilesOf (Rose (H.faults host.old) (H.faults host.new)) (H.files host.old) result }
     ensures files { H.files host.new ≡ H.files host.old }
+    ensures asked { H.calls host.new ≡ one_more (H.calls host.old) }
     ensures later { H.faults host.old ≤ H.faults host.new }
 {
     match host.load(alloc) {
@@ -119,6 +121,7 @@ fn loaded<H: Host>(alloc: Global, host: &mut H) -> Result<Tree, Ending>
 }
 
 /// Runs the script that the words hand over, over the host's files.
+#[tactic(auto, using(crate::proofs::Tops::asked_once, crate::proofs::Tops::asked_never))]
 fn run_words<H: Host, O: Sink, E: Sink>(
     alloc: Global,
     words: &[Text],
@@ -129,6 +132,7 @@ fn run_words<H: Host, O: Sink, E: Sink>(
     ensures runs { RunsWords (Rose (H.faults host.old) (H.faults host.new)) (Rose (O.faults out.old) (O.faults out.new)) (Rose (E.faults err.old) (E.faults err.new)) (H.files host.old) words.now
         (record { out = O.written out.old; err = E.written err.old }) (record { out = O.written out.new; err = E.written err.new }) result.0 result.1 }
     ensures files { H.files host.new ≡ H.files host.old }
+    ensures asked { IsAsked words.now (H.calls host.old) (H.calls host.new) }
     ensures host_later { H.faults host.old ≤ H.faults host.new }
     ensures out_later { O.faults out.old ≤ O.faults out.new }
     ensures err_later { E.faults err.old ≤ E.faults err.new }
@@ -175,7 +179,7 @@ fn tell_syntax<E: Sink>(alloc: Global, err: &mut E, line: u32)
     }
 }
 
-/// All that the program does: reads the words, loads the host's files, runs the script over them and the two sinks, and says
+/// All that the program does: reads the words, loads the host's files, once and only where there is a script, runs the script over them and the two sinks, and says
 /// on standard error how the run ended, where it was not at the script's own end. The environment, the input and the gate
 /// are not asked yet.
 pub fn top<H: Host, I: Source, O: Sink, E: Sink, G: Gate>(
@@ -193,6 +197,7 @@ pub fn top<H: Host, I: Source, O: Sink, E: Sink, G: Gate>(
     ensures complete { IsCompleteFor (Rose (H.faults host.old) (H.faults host.new)) (Rose (O.faults out.old) (O.faults out.new)) (Rose (E.faults err.old) (E.faults err.new)) (H.files host.old) words.now result.ending }
     ensures status { result.status ≡ status_of result.ending }
     ensures files { H.files host.new ≡ H.files host.old }
+    ensures asked { IsAsked words.now (H.calls host.old) (H.calls host.new) }
 {
     let _ = env.len();
     let _ = input;

@@ -2,7 +2,7 @@
 
 ghost use Rattle.std.specs.Prelude.{◌≡◌, ◌↔◌, ◌<◌, ◌≤◌, ◌++◌, ◌-◌, ◌^◌, [], false, true, min, length, take, All, IfOk, IfSome, IsErrOf, IsTrue, Some};
 ghost use Rattle.hs_outside.specs.Causes.{HasCause, IsCaused, Rose};
-ghost use Rattle.hs_outside.specs.Hosts.{Loads};
+ghost use Rattle.hs_outside.specs.Hosts.{Loads, one_more};
 ghost use Rattle.hs_outside.specs.Memory.{after_call, fails};
 ghost use Rattle.hs_outside.specs.Streams.{Gives, appended, ended_by, given, prepended, taken};
 
@@ -91,11 +91,14 @@ impl MemoryHost {
 impl Host for MemoryHost {
     ghost files = { λ h. Some h.files };
 
+    ghost calls = { λ h. Some h.calls.made };
+
     ghost faults = { λ h. h.calls.faults };
 
     fn load(&mut self, alloc: Global) -> Result<Tree, HostErr>
         ensures loads { Loads (Some self.old.files) result }
         ensures files { Some self.new.files ≡ Some self.old.files }
+        ensures asked { Some self.new.calls.made ≡ one_more (Some self.old.calls.made) }
         ensures calls { self.new.calls ≡ after_call self.old.calls }
         ensures fails { IsErrOf result HostErr.Fault ↔ (fails self.old.calls ≡ true) }
         ensures cause { IsCaused self.old.calls.faults self.new.calls.faults result }

@@ -5,7 +5,7 @@
 
 ghost use Rattle.std.specs.Prelude.{◌≡◌, ◌<◌, ◌≤◌, ℕ, Bool, List, Option, length, IfOk};
 ghost use Rattle.hs_outside.specs.Causes.{HasCause, IsCaused};
-ghost use Rattle.hs_outside.specs.Hosts.{Loads};
+ghost use Rattle.hs_outside.specs.Hosts.{Loads, one_more};
 ghost use Rattle.hs_outside.specs.Streams.{Gives, appended, ended_by, given, prepended, taken};
 ghost use Rattle.hs_world.specs.Files.{Files};
 
@@ -41,6 +41,9 @@ pub trait Host {
     /// The files.
     ghost files: { Self → Option Files };
 
+    /// How many calls there were, where the host tells it. The count stays at the last number of 64 bits.
+    ghost calls: { Self → Option ℕ };
+
     /// How often the host has failed.
     ghost faults: { Self → ℕ };
 
@@ -48,6 +51,7 @@ pub trait Host {
     fn load(&mut self, alloc: Global) -> Result<Tree, HostErr>
         ensures loads { Loads (files self.old) result }
         ensures files { files self.new ≡ files self.old }
+        ensures asked { calls self.new ≡ one_more (calls self.old) }
         ensures cause { IsCaused (faults self.old) (faults self.new) result };
 }
 
