@@ -180,10 +180,30 @@ fn compared(alloc: Global, put: &Effect, loc: &Loc, value: &Value, count: u32) -
     }
 }
 
+/// A file of 1 MiB.
+fn large_file(alloc: Global) -> anyhow::Result<Effect> {
+    file(alloc, vec![in alloc; b'a'; 1_048_576]?)
+}
+
+fn bytes_of_file(alloc: Global) -> anyhow::Result<Loc> {
+    Ok(Loc::Bytes(path(alloc, "/f")?))
+}
+
+fn many_bytes(alloc: Global, count: usize) -> Result<Value, AllocError> {
+    let text = Text::from_vec(alloc, vec![in alloc; b'a'; count]?)?;
+    Ok(Value::Bytes(Some(text)))
+}
+
+fn compare_put(alloc: Global, put: &Effect, count: u32, bytes: usize) -> anyhow::Result<u64> {
+    let loc = bytes_of_file(alloc)?;
+    match many_bytes(alloc, bytes) {
+        Ok(value) => Ok(compared(alloc, put, &loc, &value, count)),
+        Err(error) => Err(error.into()),
+    }
+}
+
 /// Compares a file of 1 MiB with a text of so many bytes.
 pub fn compare(alloc: Global, count: u32, bytes: usize) -> anyhow::Result<u64> {
-    let put = file(alloc, vec![in alloc; b'a'; 1_048_576]?)?;
-    let other = Text::from_vec(alloc, vec![in alloc; b'a'; bytes]?)?;
-    let (loc, value) = (Loc::Bytes(path(alloc, "/f")?), Value::Bytes(Some(other)));
-    Ok(compared(alloc, &put, &loc, &value, count))
+    let put = large_file(alloc)?;
+    compare_put(alloc, &put, count, bytes)
 }

@@ -181,7 +181,10 @@ fn command_ended(
                 command = Command::Function { name, body };
             }
             Below::Pipe(pipe) => return piped(alloc, with_stage(command, pipe)?, rest, token),
-            _ => return Ok(None),
+            _ => {
+                drop(owner);
+                return Ok(None);
+            }
         }
     }
     Ok(None)
