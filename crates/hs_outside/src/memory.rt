@@ -11,6 +11,7 @@ use hs_text::Text;
 use hs_world::Tree;
 use std::alloc::{AllocError, Global};
 use std::marker::Model;
+use std::mem;
 
 /// The calls of an object, some of which fail: counted from 1, and the count stays at the last number of 64 bits. A call
 /// costs as many comparisons as there are failing ones.
@@ -183,6 +184,19 @@ impl Sink for MemorySink {
             return Err(Failed::NoMemory);
         }
         Ok(count as u32)
+    }
+
+    fn take(&mut self, alloc: Global) -> MemorySink {
+        let empty = MemorySink {
+            written: Vec::new(alloc),
+            step: 1,
+            calls: Calls::new(Vec::new(alloc)),
+        };
+        mem::replace(self, empty)
+    }
+
+    fn put(&mut self, sink: MemorySink) {
+        *self = sink;
     }
 }
 

@@ -93,4 +93,12 @@ pub trait Sink {
         ensures count { IfOk result (λ n. (0 < n) × (n ≤ length piece.now)) }
         ensures written { written self.new ≡ appended (written self.old) (taken result piece.now) }
         ensures cause { HasCause (faults self.old) (faults self.new) result };
+
+    /// Hands the sink over, to be owned for a while. One that takes nothing stands in its place. It takes no memory.
+    fn take(&mut self, alloc: Global) -> Self
+        ensures { result ≡ self.old };
+
+    /// Puts a sink into the place of this one.
+    fn put(&mut self, sink: Self)
+        ensures { self.new ≡ sink };
 }

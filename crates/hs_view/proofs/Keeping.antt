@@ -7,8 +7,8 @@ use Rattle.hs_world.specs.declared.effect.Effect.{Effect}
 use Rattle.hs_world.proofs.Laws.{Applied-append}
 use Rattle.hs_world.proofs.Passing.{passes_front}
 use Rattle.hs_view.specs.Causes.{Rose}
-use Rattle.hs_view.specs.Seen.{SeenData}
-use Rattle.hs_view.specs.View.{Viewed, Keeps, Grows, Showed, Stands, stands_by, moved_by, own, own_of}
+use Rattle.hs_view.specs.Seen.{Shows, Still}
+use Rattle.hs_view.specs.View.{Viewed, Keeps, Grows, Moves, Showed, Stands, stands_by, moved_by, own, own_of}
 
 -- ---- lists that grow
 
@@ -61,9 +61,19 @@ passes_join (r ∷ rs) ss w p q = (p.0, passes_join rs ss w p.1 q)
 pub rose_later : (a b c : ℕ) → a ≤ b → Rose b c → Rose a c
 rose_later a b c h r = omega arith
 
+-- where nothing was done
+pub moves_still : {B : Type 0} (seen : Shows B) (a b : B) (made : List Effect) → made ≡ [] → Still seen a b → Moves seen made a b
+moves_still {B} seen a b made none s = (
+  s.0 ∙ moved_none (seen.tells a).writes (seen.tells a).world ∙ ap (λ (l : List Effect). moved_by (seen.tells a).writes l (seen.tells a).world) (sym none),
+  λ w. subst (λ (l : List Effect). seen.made l a b) (sym none) (s.1 w),
+)
+
+pub still_from : {B : Type 0} (seen : Shows B) (v : Viewed B) (base new : B) → base ≡ v.base → (seen.tells new).world ≡ (seen.tells base).world → seen.made [] base new → Still seen v.base new
+still_from {B} seen v base new e w m = subst (λ (x : B). Still seen x new) e (w, λ _. m)
+
 -- ---- what calls keep
 
-pub keeps_refl : {B A H : Type 0} (seen : B → SeenData) (v : Viewed B) (r : Result A H) → Keeps seen v v r
+pub keeps_refl : {B A H : Type 0} (seen : Shows B) (v : Viewed B) (r : Result A H) → Keeps seen v v r
 keeps_refl {B} seen v r = record {
   trace = refl;
   writes = refl;
@@ -77,11 +87,11 @@ keeps_refl {B} seen v r = record {
   still = λ n. refl;
   moved = ok_all r (λ made e.
       let none : made ≡ [] = sym (cancel v.effects [] made (append-nil v.effects ∙ e)) in
-      moved_none (seen v.base).writes (seen v.base).world ∙ ap (λ (l : List Effect). moved_by (seen v.base).writes l (seen v.base).world) (sym none));
+      moves_still seen v.base v.base made none (refl, λ w. seen.made_none v.base));
 }
 
 -- A call that gave an answer keeps as much as one that came to a halt.
-pub keeps_as : {B A H C I : Type 0} (seen : B → SeenData) (a b : Viewed B) (x : A) (r : Result C I) → Keeps {H = H} seen a b (Ok x) → Keeps seen a b r
+pub keeps_as : {B A H C I : Type 0} (seen : Shows B) (a b : Viewed B) (x : A) (r : Result C I) → Keeps {H = H} seen a b (Ok x) → Keeps seen a b r
 keeps_as seen a b x r k = record {
   trace = k.trace;
   writes = k.writes;
@@ -96,7 +106,7 @@ keeps_as seen a b x r k = record {
   moved = ok_all r k.moved;
 }
 
-pub keeps_halt : {B A H C I : Type 0} (seen : B → SeenData) (a b : Viewed B) (h : H) (i : I) → Keeps {A = A} seen a b (Err h) → Keeps {A = C} seen a b (Err i)
+pub keeps_halt : {B A H C I : Type 0} (seen : Shows B) (a b : Viewed B) (h : H) (i : I) → Keeps {A = A} seen a b (Err h) → Keeps {A = C} seen a b (Err i)
 keeps_halt seen a b h i k = record {
   trace = k.trace;
   writes = k.writes;
@@ -111,21 +121,25 @@ keeps_halt seen a b h i k = record {
   moved = tt;
 }
 
-pub moved_then : {B : Type 0} (seen : B → SeenData) (a b c : Viewed B) → (seen b.base).writes ≡ (seen a.base).writes → (ab : Grows a.effects b.effects) (bc : Grows b.effects c.effects)
-    → ((made : List Effect) → b.effects ≡ a.effects ++ made → (seen b.base).world ≡ moved_by (seen a.base).writes made (seen a.base).world)
-    → ((made : List Effect) → c.effects ≡ b.effects ++ made → (seen c.base).world ≡ moved_by (seen b.base).writes made (seen b.base).world)
-    → (made : List Effect) → c.effects ≡ a.effects ++ made → (seen c.base).world ≡ moved_by (seen a.base).writes made (seen a.base).world
+pub moved_then : {B : Type 0} (seen : Shows B) (a b c : Viewed B) → (seen.tells b.base).writes ≡ (seen.tells a.base).writes → (ab : Grows a.effects b.effects) (bc : Grows b.effects c.effects)
+    → ((made : List Effect) → b.effects ≡ a.effects ++ made → Moves seen made a.base b.base)
+    → ((made : List Effect) → c.effects ≡ b.effects ++ made → Moves seen made b.base c.base)
+    → (made : List Effect) → c.effects ≡ a.effects ++ made → Moves seen made a.base c.base
 moved_then {B} seen a b c w ab bc f g made e =
     let whole = bc.is ∙ ap (λ (es : List Effect). es ++ bc.more) ab.is ∙ append_assoc a.effects ab.more bc.more in
     let all : ab.more ++ bc.more ≡ made = cancel a.effects (ab.more ++ bc.more) made (sym whole ∙ e) in
-    g bc.more bc.is
-    ∙ ap (λ (t : Bool). moved_by t bc.more (seen b.base).world) w
-    ∙ ap (λ (o : Option WorldData). moved_by (seen a.base).writes bc.more o) (f ab.more ab.is)
-    ∙ moved_append (seen a.base).writes ab.more bc.more (seen a.base).world
-    ∙ ap (λ (l : List Effect). moved_by (seen a.base).writes l (seen a.base).world) all
+    let p = f ab.more ab.is in
+    let q = g bc.more bc.is in (
+      q.0
+          ∙ ap (λ (t : Bool). moved_by t bc.more (seen.tells b.base).world) w
+          ∙ ap (λ (o : Option WorldData). moved_by (seen.tells a.base).writes bc.more o) p.0
+          ∙ moved_append (seen.tells a.base).writes ab.more bc.more (seen.tells a.base).world
+          ∙ ap (λ (l : List Effect). moved_by (seen.tells a.base).writes l (seen.tells a.base).world) all,
+      λ h. subst (λ (l : List Effect). seen.made l a.base c.base) all (seen.made_then ab.more bc.more a.base b.base c.base (p.1 h) (q.1 (w ∙ h))),
+    )
 
 -- two calls, one after the other
-pub keeps_then : {B A H C I : Type 0} (seen : B → SeenData) (a b c : Viewed B) (x : A) (r : Result C I) → Keeps {H = H} seen a b (Ok x) → Keeps seen b c r → Keeps seen a c r
+pub keeps_then : {B A H C I : Type 0} (seen : Shows B) (a b c : Viewed B) (x : A) (r : Result C I) → Keeps {H = H} seen a b (Ok x) → Keeps seen b c r → Keeps seen a c r
 keeps_then {B} seen a b c x r k l = record {
   trace = l.trace ∙ k.trace;
   writes = l.writes ∙ k.writes;
@@ -141,9 +155,9 @@ keeps_then {B} seen a b c x r k l = record {
 }
 
 -- a call that only read, or changed nothing but the count of faults
-pub keeps_read : {B A H : Type 0} (seen : B → SeenData) (v u : Viewed B) (r : Result A H) (more : ReadList) → u.reads ≡ v.reads ++ more → u.effects ≡ v.effects → u.trace ≡ v.trace
-    → (seen u.base).writes ≡ (seen v.base).writes → (seen u.base).runs ≡ (seen v.base).runs → (seen u.base).asked ≡ (seen v.base).asked → (seen u.base).world ≡ (seen v.base).world
-    → ((seen v.base).writes ≡ true → more ≡ []) → ((w : WorldData) → (seen v.base).world ≡ Some w → Passes more w) → (seen v.base).faults ≤ (seen u.base).faults → Keeps seen v u r
+pub keeps_read : {B A H : Type 0} (seen : Shows B) (v u : Viewed B) (r : Result A H) (more : ReadList) → u.reads ≡ v.reads ++ more → u.effects ≡ v.effects → u.trace ≡ v.trace
+    → (seen.tells u.base).writes ≡ (seen.tells v.base).writes → (seen.tells u.base).runs ≡ (seen.tells v.base).runs → (seen.tells u.base).asked ≡ (seen.tells v.base).asked → Still seen v.base u.base
+    → ((seen.tells v.base).writes ≡ true → more ≡ []) → ((w : WorldData) → (seen.tells v.base).world ≡ Some w → Passes more w) → (seen.tells v.base).faults ≤ (seen.tells u.base).faults → Keeps seen v u r
 keeps_read {B} seen v u r more rs es t writes runs asked world plain told later = record {
   trace = t;
   writes = writes;
@@ -153,19 +167,19 @@ keeps_read {B} seen v u r more rs es t writes runs asked world plain told later 
   reads = grows_by v.reads u.reads more rs;
   effects = grows_same v.effects u.effects es;
   plain = λ n. rs ∙ ap (λ (l : ReadList). v.reads ++ l) (plain n) ∙ append-nil v.reads;
-  told = λ n w h. (world ∙ h.0, subst (λ (l : ReadList). Passes l w) (sym rs) (passes_join v.reads more w h.1 (told w h.0)));
-  still = λ n. world;
+  told = λ n w h. (world.0 ∙ h.0, subst (λ (l : ReadList). Passes l w) (sym rs) (passes_join v.reads more w h.1 (told w h.0)));
+  still = λ n. world.0;
   moved = ok_all r (λ made e.
       let none : made ≡ [] = sym (cancel v.effects [] made (append-nil v.effects ∙ sym es ∙ e)) in
-      world ∙ moved_none (seen v.base).writes (seen v.base).world ∙ ap (λ (l : List Effect). moved_by (seen v.base).writes l (seen v.base).world) (sym none));
+      moves_still seen v.base u.base made none world);
 }
 
 -- a call that had effects, and what they made of a told state
-pub keeps_put : {B A H : Type 0} (seen : B → SeenData) (v u : Viewed B) (r : Result A H) (made : List Effect) → u.reads ≡ v.reads → u.effects ≡ v.effects ++ made → u.trace ≡ v.trace
-    → (seen u.base).writes ≡ (seen v.base).writes → (seen u.base).runs ≡ (seen v.base).runs → (seen u.base).asked ≡ (seen v.base).asked → (seen u.base).world ≡ moved_by (seen v.base).writes made (seen v.base).world
-    → (seen v.base).faults ≤ (seen u.base).faults → Keeps seen v u r
+pub keeps_put : {B A H : Type 0} (seen : Shows B) (v u : Viewed B) (r : Result A H) (made : List Effect) → u.reads ≡ v.reads → u.effects ≡ v.effects ++ made → u.trace ≡ v.trace
+    → (seen.tells u.base).writes ≡ (seen.tells v.base).writes → (seen.tells u.base).runs ≡ (seen.tells v.base).runs → (seen.tells u.base).asked ≡ (seen.tells v.base).asked → Moves seen made v.base u.base
+    → (seen.tells v.base).faults ≤ (seen.tells u.base).faults → Keeps seen v u r
 keeps_put {B} seen v u r made rs es t writes runs asked world later =
-    let still = λ (n : (seen v.base).writes ≡ false). world ∙ ap (λ (x : Bool). moved_by x made (seen v.base).world) n in record {
+    let still = λ (n : (seen.tells v.base).writes ≡ false). world.0 ∙ ap (λ (x : Bool). moved_by x made (seen.tells v.base).world) n in record {
       trace = t;
       writes = writes;
       runs = runs;
@@ -178,16 +192,16 @@ keeps_put {B} seen v u r made rs es t writes runs asked world later =
       still = still;
       moved = ok_all r (λ other e.
           let same : other ≡ made = cancel v.effects other made (sym e ∙ es) in
-          world ∙ ap (λ (l : List Effect). moved_by (seen v.base).writes l (seen v.base).world) (sym same));
+          subst (λ (l : List Effect). Moves seen l v.base u.base) (sym same) world);
     }
 
 -- ---- the states that were shown
 
 -- What is read later shows no more states.
-pub showed_earlier : {B A H : Type 0} (seen : B → SeenData) (start b c : Viewed B) (r : Result A H) (u : WorldData) → Keeps seen b c r → Showed seen start c u → Showed seen start b u
+pub showed_earlier : {B A H : Type 0} (seen : Shows B) (start b c : Viewed B) (r : Result A H) (u : WorldData) → Keeps seen b c r → Showed seen start c u → Showed seen start b u
 showed_earlier {B} seen start b c r u k s = record {
   under = s.under;
-  stands = stands_front (seen start.base).writes (seen start.base).world b.reads k.reads.more s.under (subst (λ (rs : ReadList). Stands (seen start.base) rs s.under) k.reads.is s.stands);
+  stands = stands_front (seen.tells start.base).writes (seen.tells start.base).world b.reads k.reads.more s.under (subst (λ (rs : ReadList). Stands (seen.tells start.base) rs s.under) k.reads.is s.stands);
   over = s.over;
 }
 
@@ -199,13 +213,13 @@ next_by false true old new reads es fs m b u h e t st eq = absurd (subst T h tt)
 next_by true false old new reads es fs m b u h e t st eq = absurd (subst T (sym h) tt)
 
 -- the state that a view shows after a call, from the one before
-pub showed_next : {B A H : Type 0} (seen : B → SeenData) (a b c : Viewed B) (x : A) (m : List Effect) (u : WorldData) → Keeps {H = H} seen a b (Ok x) → b.effects ≡ a.effects ++ m → Showed seen a c u → Showed seen b c (Applied m u)
+pub showed_next : {B A H : Type 0} (seen : Shows B) (a b c : Viewed B) (x : A) (m : List Effect) (u : WorldData) → Keeps {H = H} seen a b (Ok x) → b.effects ≡ a.effects ++ m → Showed seen a c u → Showed seen b c (Applied m u)
 showed_next {B} seen a b c x m u k e s =
-    let n = next_by (seen a.base).writes (seen b.base).writes (seen a.base).world (seen b.base).world c.reads a.effects b.effects m s.under u k.writes e (k.moved m e) s.stands s.over in
+    let n = next_by (seen.tells a.base).writes (seen.tells b.base).writes (seen.tells a.base).world (seen.tells b.base).world c.reads a.effects b.effects m s.under u k.writes e (k.moved m e).0 s.stands s.over in
     record { under = n.0; stands = n.1; over = n.2 }
 
 -- after a call that had no effects
-pub showed_same : {B A H : Type 0} (seen : B → SeenData) (a b c : Viewed B) (x : A) (u : WorldData) → Keeps {H = H} seen a b (Ok x) → b.effects ≡ a.effects → Showed seen a c u → Showed seen b c u
+pub showed_same : {B A H : Type 0} (seen : Shows B) (a b c : Viewed B) (x : A) (u : WorldData) → Keeps {H = H} seen a b (Ok x) → b.effects ≡ a.effects → Showed seen a c u → Showed seen b c u
 showed_same seen a b c x u k e s = showed_next seen a b c x [] u k (e ∙ sym (append-nil a.effects)) s
 
 back_by : (x y : Bool) (old new : Option WorldData) (reads : ReadList) (es fs m : List Effect) (c v : WorldData) → y ≡ x → fs ≡ es ++ m → new ≡ moved_by x m old → stands_by y new reads c → v ≡ Applied (own y fs) c
@@ -217,12 +231,12 @@ back_by false true old new reads es fs m c v h e t st eq = absurd (subst T h tt)
 back_by true false old new reads es fs m c v h e t st eq = absurd (subst T (sym h) tt)
 
 -- the state that a view showed before a call, from the one after
-pub showed_back : {B A H : Type 0} (seen : B → SeenData) (a b c : Viewed B) (x : A) (m : List Effect) (v : WorldData) → Keeps {H = H} seen a b (Ok x) → b.effects ≡ a.effects ++ m → Showed seen b c v
+pub showed_back : {B A H : Type 0} (seen : Shows B) (a b c : Viewed B) (x : A) (m : List Effect) (v : WorldData) → Keeps {H = H} seen a b (Ok x) → b.effects ≡ a.effects ++ m → Showed seen b c v
     → (u : WorldData) × Showed seen a c u × (v ≡ Applied m u)
 showed_back {B} seen a b c x m v k e s =
-    let n = back_by (seen a.base).writes (seen b.base).writes (seen a.base).world (seen b.base).world c.reads a.effects b.effects m s.under v k.writes e (k.moved m e) s.stands s.over in
+    let n = back_by (seen.tells a.base).writes (seen.tells b.base).writes (seen.tells a.base).world (seen.tells b.base).world c.reads a.effects b.effects m s.under v k.writes e (k.moved m e).0 s.stands s.over in
     (n.0, record { under = n.1.0; stands = n.1.1; over = n.1.2 }, n.2)
 
 -- a call that had no effects leaves those that the base does not have
-pub own_same : {B A H : Type 0} (seen : B → SeenData) (a b : Viewed B) (r : Result A H) → Keeps seen a b r → b.effects ≡ a.effects → own_of seen b ≡ own_of seen a
-own_same {B} seen a b r k e = ap (λ (x : Bool). own x b.effects) k.writes ∙ ap (own (seen a.base).writes) e
+pub own_same : {B A H : Type 0} (seen : Shows B) (a b : Viewed B) (r : Result A H) → Keeps seen a b r → b.effects ≡ a.effects → own_of seen b ≡ own_of seen a
+own_same {B} seen a b r k e = ap (λ (x : Bool). own x b.effects) k.writes ∙ ap (own (seen.tells a.base).writes) e

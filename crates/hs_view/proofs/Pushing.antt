@@ -21,7 +21,7 @@ use Rattle.hs_overlay.specs.declared.shells.Saved.{Saved}
 use Rattle.hs_overlay.proofs.Piles.{depth_is}
 use Rattle.hs_overlay.proofs.RoutingLaws.{tables-depth}
 use Rattle.hs_view.specs.Known.{Tabled, ends_in, routes_in}
-use Rattle.hs_view.specs.Seen.{SeenData}
+use Rattle.hs_view.specs.Seen.{Shows}
 use Rattle.hs_view.specs.View.{Viewed, Showed, own, own_of}
 use Rattle.hs_view.specs.declared.pushes.Mark.{Mark}
 use Rattle.hs_view.specs.Pushes.{Standing, none_standing, without_shell, standing_step, standing_all, standing, is_standing, has_push, is_own_pop, mark_of, marked_step}
@@ -231,12 +231,12 @@ own_off : (writes : Bool) (es : List Effect) → writes ≡ false → own writes
 own_off false es h = refl
 own_off true es h = absurd (subst T h tt)
 
-pub valid-pushed : {B : Type 0} (seen : B → SeenData) (v : Viewed B) (o : OverlayData) (e : Effect) → (seen v.base).writes ≡ false → Tabled seen v o → has_push e v.effects ≡ true
-    → (is_own_pop e (seen v.base).writes ≡ false → (u : WorldData) → Showed seen v v u → is_valid e u ≡ true) → (u : WorldData) → Showed seen v v u → is_valid e u ≡ true
+pub valid-pushed : {B : Type 0} (seen : Shows B) (v : Viewed B) (o : OverlayData) (e : Effect) → (seen.tells v.base).writes ≡ false → Tabled seen v o → has_push e v.effects ≡ true
+    → (is_own_pop e (seen.tells v.base).writes ≡ false → (u : WorldData) → Showed seen v v u → is_valid e u ≡ true) → (u : WorldData) → Showed seen v v u → is_valid e u ≡ true
 valid-pushed {B} seen v o e w t h f u s =
-    let mine : has_own e o ≡ true = ap (has_own e) t.is ∙ own-push e (own_of seen v) (ends_in v.reads) (routes_in v.reads) ∙ ap (has_push e) (own_off (seen v.base).writes v.effects w) ∙ h in
+    let mine : has_own e o ≡ true = ap (has_own e) t.is ∙ own-push e (own_of seen v) (ends_in v.reads) (routes_in v.reads) ∙ ap (has_push e) (own_off (seen.tells v.base).writes v.effects w) ∙ h in
     let over : Over o s.under u = subst (Over o s.under) (sym s.over) (t.over s.under s.stands) in
-    pop_valid e (seen v.base).writes o s.under u over mine (λ n. f n u s)
+    pop_valid e (seen.tells v.base).writes o s.under u over mine (λ n. f n u s)
 
 pub no-own_pop : (e : Effect) (writes : Bool) → writes ≡ true → is_own_pop e writes ≡ false
 no-own_pop PopShell writes h = ap not h

@@ -17,7 +17,7 @@ use Rattle.hs_world.specs.declared.route.Route.{Route}
 use Rattle.hs_world.proofs.Passing.{passes_front, fresh_push, all_push}
 use Rattle.hs_overlay.specs.Overlay.{OverlayData, no_overlay, over_all, AllOwn}
 use Rattle.hs_view.specs.Known.{ends_in, routes_in, tables_of}
-use Rattle.hs_view.specs.Seen.{SeenData, is_of}
+use Rattle.hs_view.specs.Seen.{SeenData, Shows, is_of}
 use Rattle.hs_view.specs.Size.{capped, read_size, reads_size, effects_size, trace_size}
 use Rattle.hs_view.specs.Sound.{IsSound}
 use Rattle.hs_view.specs.View.{Viewed, IsTree, Showed, Stands, stands_by, own, own_of}
@@ -63,18 +63,18 @@ size_read rs es r old new h n =
 
 -- ---- what is kept
 
-tabled_same : {B : Type 0} (seen : B → SeenData) (v u : Viewed B) (kept : Option OverlayData) → (seen u.base).writes ≡ (seen v.base).writes → u.effects ≡ v.effects → u.reads ≡ v.reads
+tabled_same : {B : Type 0} (seen : Shows B) (v u : Viewed B) (kept : Option OverlayData) → (seen.tells u.base).writes ≡ (seen.tells v.base).writes → u.effects ≡ v.effects → u.reads ≡ v.reads
     → ((o : OverlayData) → kept ≡ Some o → o ≡ tables_of seen v) → (o : OverlayData) → kept ≡ Some o → o ≡ tables_of seen u
 tabled_same {B} seen v u kept i e r f o k = f o k ∙ (λ j. over_all (own (sym i j) (sym e j)) (no_overlay (ends_in (sym r j)) (routes_in (sym r j))))
 
-no_tables : {B : Type 0} (seen : B → SeenData) (v : Viewed B) (o : OverlayData) → None ≡ Some o → o ≡ tables_of seen v
+no_tables : {B : Type 0} (seen : Shows B) (v : Viewed B) (o : OverlayData) → None ≡ Some o → o ≡ tables_of seen v
 no_tables seen v o h = absurd (subst T (sym (ap is_some h)) tt)
 
-own_same : {B : Type 0} (seen : B → SeenData) (v u : Viewed B) → (seen u.base).writes ≡ (seen v.base).writes → u.effects ≡ v.effects → own_of seen u ≡ own_of seen v
+own_same : {B : Type 0} (seen : Shows B) (v u : Viewed B) → (seen.tells u.base).writes ≡ (seen.tells v.base).writes → u.effects ≡ v.effects → own_of seen u ≡ own_of seen v
 own_same {B} seen v u i e = λ j. own (i j) (e j)
 
 -- over a base that writes
-pub sound_now : {B : Type 0} (seen : B → SeenData) (v u : Viewed B) (size : ℕ) (kept : Option OverlayData) → IsSound seen v size kept → (seen v.base).writes ≡ true → (seen u.base).writes ≡ true → u.effects ≡ v.effects → u.reads ≡ v.reads → IsSound seen u size kept
+pub sound_now : {B : Type 0} (seen : Shows B) (v u : Viewed B) (size : ℕ) (kept : Option OverlayData) → IsSound seen v size kept → (seen.tells v.base).writes ≡ true → (seen.tells u.base).writes ≡ true → u.effects ≡ v.effects → u.reads ≡ v.reads → IsSound seen u size kept
 sound_now {B} seen v u size kept s h i e r =
     let o : own_of seen u ≡ [] = ap (λ (x : Bool). own x u.effects) i in record {
       fresh = subst Fresh (sym r) s.fresh;
@@ -86,16 +86,16 @@ sound_now {B} seen v u size kept s h i e r =
     }
 
 -- over another: one read more
-pub sound_read : {B : Type 0} (seen : B → SeenData) (v u : Viewed B) (old new : ℕ) (kept free : Option OverlayData) (loc : Loc) (value : Value) → IsSound seen v old kept → (seen v.base).writes ≡ false → (seen u.base).writes ≡ false → u.effects ≡ v.effects
+pub sound_read : {B : Type 0} (seen : Shows B) (v u : Viewed B) (old new : ℕ) (kept free : Option OverlayData) (loc : Loc) (value : Value) → IsSound seen v old kept → (seen.tells v.base).writes ≡ false → (seen.tells u.base).writes ≡ false → u.effects ≡ v.effects
     → u.reads ≡ v.reads ++ (loc, value) ∷ [] → IsNew loc v.reads → is_of loc value ≡ true → new ≡ min (old + capped (read_size (loc, value))) (2 ^ 128 - 1) → free ≡ None → IsSound seen u new free
 sound_read {B} seen v u old new kept free loc value s h i e r n o z f =
-    let same : own_of seen u ≡ own_of seen v = ap (λ (x : Bool). own x u.effects) (i ∙ sym h) ∙ ap (own (seen v.base).writes) e in record {
+    let same : own_of seen u ≡ own_of seen v = ap (λ (x : Bool). own x u.effects) (i ∙ sym h) ∙ ap (own (seen.tells v.base).writes) e in record {
       fresh = subst Fresh (sym r) (fresh_push v.reads (loc, value) s.fresh n);
       shaped = subst (λ (rs : ReadList). ByRecursion (λ r. is_of r.0 r.1 ≡ true) rs) (sym r) (all_push _ v.reads (loc, value) s.shaped o);
       valid = λ b t.
-          let p = to_passes (seen u.base).writes (seen u.base).world u.reads b i t in
+          let p = to_passes (seen.tells u.base).writes (seen.tells u.base).world u.reads b i t in
           subst (λ (es : List Effect). AllValid es b) (sym same)
-          (s.valid b (from_passes (seen v.base).writes (seen v.base).world v.reads b h p.0 (passes_front v.reads _ b (subst (λ (rs : ReadList). Passes rs b) r p.1))));
+          (s.valid b (from_passes (seen.tells v.base).writes (seen.tells v.base).world v.reads b h p.0 (passes_front v.reads _ b (subst (λ (rs : ReadList). Passes rs b) r p.1))));
       sized = λ _.
           size_read v.reads v.effects (loc, value) old new (s.sized h) z
           ∙ (λ j. capped (trace_size (sym r j) (sym e j)));
@@ -112,9 +112,9 @@ own_none true = refl
 own_none false = refl
 
 -- a view at first
-pub sound_new : {B : Type 0} (seen : B → SeenData) (v : Viewed B) → v.reads ≡ [] → v.effects ≡ [] → IsSound seen v 0 None
+pub sound_new : {B : Type 0} (seen : Shows B) (v : Viewed B) → v.reads ≡ [] → v.effects ≡ [] → IsSound seen v 0 None
 sound_new {B} seen v r e =
-    let o : own_of seen v ≡ [] = ap (own (seen v.base).writes) e ∙ own_none (seen v.base).writes in record {
+    let o : own_of seen v ≡ [] = ap (own (seen.tells v.base).writes) e ∙ own_none (seen.tells v.base).writes in record {
       fresh = subst Fresh (sym r) tt;
       shaped = subst (λ (rs : ReadList). ByRecursion (λ r. is_of r.0 r.1 ≡ true) rs) (sym r) tt;
       valid = λ b _. subst (λ (es : List Effect). AllValid es b) (sym o) tt;
@@ -127,12 +127,12 @@ sound_new {B} seen v r e =
 coe_stands : {x y : Bool} {o p : Option WorldData} {rs ss : ReadList} → y ≡ x → p ≡ o → ss ≡ rs → (b : WorldData) → stands_by y p ss b → stands_by x o rs b
 coe_stands {x} {y} {o} {p} {rs} {ss} i w r b t = subst (λ (q : Bool × Option WorldData × ReadList). stands_by q.0 q.1 q.2 b) (λ j. (i j, w j, r j)) t
 
-pub sound_asked : {B : Type 0} (seen : B → SeenData) (v u : Viewed B) (size : ℕ) (kept : Option OverlayData) → IsSound seen v size kept → (seen u.base).writes ≡ (seen v.base).writes → (seen u.base).world ≡ (seen v.base).world → u.effects ≡ v.effects → u.reads ≡ v.reads → IsSound seen u size kept
+pub sound_asked : {B : Type 0} (seen : Shows B) (v u : Viewed B) (size : ℕ) (kept : Option OverlayData) → IsSound seen v size kept → (seen.tells u.base).writes ≡ (seen.tells v.base).writes → (seen.tells u.base).world ≡ (seen.tells v.base).world → u.effects ≡ v.effects → u.reads ≡ v.reads → IsSound seen u size kept
 sound_asked {B} seen v u size kept s i w e r = record {
   fresh = subst Fresh (sym r) s.fresh;
   shaped = subst (λ (rs : ReadList). ByRecursion (λ r. is_of r.0 r.1 ≡ true) rs) (sym r) s.shaped;
   valid = λ b t.
-      let before : stands_by (seen v.base).writes (seen v.base).world v.reads b = coe_stands i w r b t in
+      let before : stands_by (seen.tells v.base).writes (seen.tells v.base).world v.reads b = coe_stands i w r b t in
       subst (λ (es : List Effect). AllValid es b) (sym (own_same seen v u i e)) (s.valid b before);
   covered = subst (λ (es : List Effect). AllOwn es (no_overlay None None)) (sym (own_same seen v u i e)) s.covered;
   sized = λ n. s.sized (sym i ∙ n) ∙ (λ j. capped (trace_size (sym r j) (sym e j)));
@@ -144,14 +144,14 @@ now_under true es h = refl
 now_under false es h = absurd (subst T (sym h) tt)
 
 -- what a base that writes has is what the view shows
-pub shown_now : {B : Type 0} (seen : B → SeenData) (v u : Viewed B) (loc : Loc) (value : Value) → (seen v.base).writes ≡ true → ((b : WorldData) → Stands (seen v.base) u.reads b → At b loc ≡ value)
+pub shown_now : {B : Type 0} (seen : Shows B) (v u : Viewed B) (loc : Loc) (value : Value) → (seen.tells v.base).writes ≡ true → ((b : WorldData) → Stands (seen.tells v.base) u.reads b → At b loc ≡ value)
     → (x : WorldData) → Showed seen v u x → At x loc ≡ value
-shown_now {B} seen v u loc value h f x s = ap (λ (w : WorldData). At w loc) (s.over ∙ ap (λ (es : List Effect). Applied es s.under) (now_under (seen v.base).writes v.effects h)) ∙ f s.under s.stands
+shown_now {B} seen v u loc value h f x s = ap (λ (w : WorldData). At w loc) (s.over ∙ ap (λ (es : List Effect). Applied es s.under) (now_under (seen.tells v.base).writes v.effects h)) ∙ f s.under s.stands
 
 -- the effects of a view are valid in each state that passes its reads
-pub sound_valid : {B : Type 0} (seen : B → SeenData) (v : Viewed B) (size : ℕ) (kept : Option OverlayData) → IsSound seen v size kept → (seen v.base).writes ≡ false → (w : WorldData) → IsTree w.tree → Passes v.reads w → AllValid v.effects w
+pub sound_valid : {B : Type 0} (seen : Shows B) (v : Viewed B) (size : ℕ) (kept : Option OverlayData) → IsSound seen v size kept → (seen.tells v.base).writes ≡ false → (w : WorldData) → IsTree w.tree → Passes v.reads w → AllValid v.effects w
 sound_valid {B} seen v size kept s h w t p =
-    subst (λ (es : List Effect). AllValid es w) (ap (λ (x : Bool). own x v.effects) h) (s.valid w (from_passes (seen v.base).writes (seen v.base).world v.reads w h t p))
+    subst (λ (es : List Effect). AllValid es w) (ap (λ (x : Bool). own x v.effects) h) (s.valid w (from_passes (seen.tells v.base).writes (seen.tells v.base).world v.reads w h t p))
 
 -- ---- what comes of a read
 

@@ -22,7 +22,7 @@ use Rattle.hs_overlay.proofs.Knowledge.{known-after, own-known}
 use Rattle.hs_overlay.proofs.Overs.{over_start, over_after}
 use Rattle.hs_overlay.proofs.ShownLaws.{own-shown, over-shown, none-lacks}
 use Rattle.hs_view.specs.Known.{ends_or, ends_in, routes_or, routes_in, is_of_tables, tables_of, IsTold, IsNine, IsSettled, Sure, Told, Untold, Tabled}
-use Rattle.hs_view.specs.Seen.{SeenData, is_of}
+use Rattle.hs_view.specs.Seen.{Shows, is_of}
 use Rattle.hs_view.specs.Sound.{IsSound}
 use Rattle.hs_view.specs.View.{Viewed, Grows, Showed, Stands, own, own_of}
 use Rattle.hs_view.proofs.Sounds.{stands_passes, stands_tree, from_passes}
@@ -109,16 +109,16 @@ routes_pushed (r ∷ rs) l v h = ap (routes_or r.0 r.1) (routes_pushed rs l v h)
 
 -- ---- the state that a view shows
 
-pub tables-over : {B : Type 0} (seen : B → SeenData) (v : Viewed B) (b : WorldData) → (seen v.base).writes ≡ false → Stands (seen v.base) v.reads b → AllOwn (own_of seen v) (no_overlay None None) → AllValid (own_of seen v) b
+pub tables-over : {B : Type 0} (seen : Shows B) (v : Viewed B) (b : WorldData) → (seen.tells v.base).writes ≡ false → Stands (seen.tells v.base) v.reads b → AllOwn (own_of seen v) (no_overlay None None) → AllValid (own_of seen v) b
     → Over (tables_of seen v) b (Applied (own_of seen v) b)
 tables-over {B} seen v b w s a ok =
-    let p = stands_passes (seen v.base) v.reads b w s in
+    let p = stands_passes (seen.tells v.base) v.reads b w s in
     over_after (own_of seen v) (no_overlay (ends_in v.reads) (routes_in v.reads)) b b
     (over_start b (ends_in v.reads) (routes_in v.reads) (record { ends = ends_known v.reads b p; routes = routes_known v.reads b p }))
     (own-known (own_of seen v) None None (ends_in v.reads) (routes_in v.reads) a) ok
 
 -- What is settled lacks nothing.
-pub none-lacking : {B : Type 0} (seen : B → SeenData) (v : Viewed B) (l : Loc) (b w : WorldData) → IsSettled l (tables_of seen v) v.reads → Over (tables_of seen v) b w → lacks (tables_of seen v) l ≡ false
+pub none-lacking : {B : Type 0} (seen : Shows B) (v : Viewed B) (l : Loc) (b w : WorldData) → IsSettled l (tables_of seen v) v.reads → Over (tables_of seen v) b w → lacks (tables_of seen v) l ≡ false
 none-lacking {B} seen v l b w (Sure h) o = h
 none-lacking {B} seen v l b w (Told e r) o =
     let k = known-after (own_of seen v) (no_overlay (ends_in v.reads) (routes_in v.reads)) in
@@ -126,32 +126,32 @@ none-lacking {B} seen v l b w (Told e r) o =
 
 -- ---- what a view's type keeps of them
 
-pub tabled-by : {B : Type 0} (seen : B → SeenData) (v : Viewed B) (size : ℕ) (kept : Option OverlayData) (o : OverlayData) → IsSound seen v size kept → (seen v.base).writes ≡ false → o ≡ tables_of seen v → Tabled seen v o
+pub tabled-by : {B : Type 0} (seen : Shows B) (v : Viewed B) (size : ℕ) (kept : Option OverlayData) (o : OverlayData) → IsSound seen v size kept → (seen.tells v.base).writes ≡ false → o ≡ tables_of seen v → Tabled seen v o
 tabled-by {B} seen v size kept o s w e = record { is = e; over = λ b t. subst (λ x. Over x b (Applied (own_of seen v) b)) (sym e) (tables-over seen v b w t s.covered (s.valid b t)) }
 
-pub sound-free : {B : Type 0} (seen : B → SeenData) (v : Viewed B) (size : ℕ) (kept free : Option OverlayData) → IsSound seen v size kept → free ≡ None → IsSound seen v size free
+pub sound-free : {B : Type 0} (seen : Shows B) (v : Viewed B) (size : ℕ) (kept free : Option OverlayData) → IsSound seen v size kept → free ≡ None → IsSound seen v size free
 sound-free seen v size kept free s n = record { fresh = s.fresh; shaped = s.shaped; valid = s.valid; covered = s.covered; sized = s.sized; tabled = λ o e. absurd (subst T (sym (ap is_some (sym n ∙ e))) tt) }
 
-pub sound-kept : {B : Type 0} (seen : B → SeenData) (v : Viewed B) (size : ℕ) (kept : Option OverlayData) (o : OverlayData) → IsSound seen v size kept → o ≡ tables_of seen v → IsSound seen v size (Some o)
+pub sound-kept : {B : Type 0} (seen : Shows B) (v : Viewed B) (size : ℕ) (kept : Option OverlayData) (o : OverlayData) → IsSound seen v size kept → o ≡ tables_of seen v → IsSound seen v size (Some o)
 sound-kept seen v size kept o s e = record { fresh = s.fresh; shaped = s.shaped; valid = s.valid; covered = s.covered; sized = s.sized; tabled = λ x q. (let p : x ≡ o = cc in p) ∙ e }
 
 own-off : (writes : Bool) (es : List Effect) → writes ≡ false → own writes es ≡ es
 own-off false es h = refl
 own-off true es h = absurd (subst T h tt)
 
-tables-built : {B : Type 0} (seen : B → SeenData) (v : Viewed B) → (seen v.base).writes ≡ false → over_all v.effects (no_overlay (ends_in v.reads) (routes_in v.reads)) ≡ tables_of seen v
-tables-built {B} seen v w = ap (λ es. over_all es (no_overlay (ends_in v.reads) (routes_in v.reads))) (sym (own-off (seen v.base).writes v.effects w))
+tables-built : {B : Type 0} (seen : Shows B) (v : Viewed B) → (seen.tells v.base).writes ≡ false → over_all v.effects (no_overlay (ends_in v.reads) (routes_in v.reads)) ≡ tables_of seen v
+tables-built {B} seen v w = ap (λ es. over_all es (no_overlay (ends_in v.reads) (routes_in v.reads))) (sym (own-off (seen.tells v.base).writes v.effects w))
 
-pub tabled-built : {B : Type 0} (seen : B → SeenData) (v : Viewed B) (size : ℕ) (kept : Option OverlayData) (o : OverlayData) → IsSound seen v size kept → (seen v.base).writes ≡ false → o ≡ over_all v.effects (no_overlay (ends_in v.reads) (routes_in v.reads)) → Tabled seen v o
+pub tabled-built : {B : Type 0} (seen : Shows B) (v : Viewed B) (size : ℕ) (kept : Option OverlayData) (o : OverlayData) → IsSound seen v size kept → (seen.tells v.base).writes ≡ false → o ≡ over_all v.effects (no_overlay (ends_in v.reads) (routes_in v.reads)) → Tabled seen v o
 tabled-built seen v size kept o s w e = tabled-by seen v size kept o s w (e ∙ tables-built seen v w)
 
 -- ---- answers
 
-stands_as : {B : Type 0} (seen : B → SeenData) (a c : Viewed B) (rs : ReadList) (b : WorldData) → (seen a.base).writes ≡ false → (seen c.base).writes ≡ (seen a.base).writes → Stands (seen a.base) rs b → Stands (seen c.base) rs b
-stands_as {B} seen a c rs b w e s = from_passes (seen c.base).writes (seen c.base).world rs b (e ∙ w) (stands_tree (seen a.base) rs b w s) (stands_passes (seen a.base) rs b w s)
+stands_as : {B : Type 0} (seen : Shows B) (a c : Viewed B) (rs : ReadList) (b : WorldData) → (seen.tells a.base).writes ≡ false → (seen.tells c.base).writes ≡ (seen.tells a.base).writes → Stands (seen.tells a.base) rs b → Stands (seen.tells c.base) rs b
+stands_as {B} seen a c rs b w e s = from_passes (seen.tells c.base).writes (seen.tells c.base).world rs b (e ∙ w) (stands_tree (seen.tells a.base) rs b w s) (stands_passes (seen.tells a.base) rs b w s)
 
 -- a value that the effects give by themselves
-pub own-answer : {B : Type 0} (seen : B → SeenData) (old v : Viewed B) (l : Loc) (o : OverlayData) (x : Value) → (seen old.base).writes ≡ false → (seen v.base).writes ≡ (seen old.base).writes → v.effects ≡ old.effects
+pub own-answer : {B : Type 0} (seen : Shows B) (old v : Viewed B) (l : Loc) (o : OverlayData) (x : Value) → (seen.tells old.base).writes ≡ false → (seen.tells v.base).writes ≡ (seen.tells old.base).writes → v.effects ≡ old.effects
     → Tabled seen v o → IsSettled l o v.reads → own_value o l ≡ Some x → (u : WorldData) → Showed seen old v u → At u l ≡ x
 own-answer {B} seen old v l o x w e f t q g u s =
     let b = s.under in
@@ -161,17 +161,17 @@ own-answer {B} seen old v l o x w e f t q g u s =
     ap (λ y. At y l) (s.over ∙ ap (λ es. Applied es b) same) ∙ own-shown l o b (Applied (own_of seen v) b) x ov lacking g
 
 -- and one over the base's
-pub over-answer : {B : Type 0} (seen : B → SeenData) (old v c : Viewed B) (l : Loc) (o : OverlayData) (x : Value) → (seen old.base).writes ≡ false → (seen v.base).writes ≡ (seen old.base).writes → v.effects ≡ old.effects
-    → Tabled seen v o → IsSettled l o v.reads → own_value o l ≡ None → Grows v.reads c.reads → ((b : WorldData) → Stands (seen v.base) c.reads b → over_value o l (At b l) ≡ x)
+pub over-answer : {B : Type 0} (seen : Shows B) (old v c : Viewed B) (l : Loc) (o : OverlayData) (x : Value) → (seen.tells old.base).writes ≡ false → (seen.tells v.base).writes ≡ (seen.tells old.base).writes → v.effects ≡ old.effects
+    → Tabled seen v o → IsSettled l o v.reads → own_value o l ≡ None → Grows v.reads c.reads → ((b : WorldData) → Stands (seen.tells v.base) c.reads b → over_value o l (At b l) ≡ x)
     → (u : WorldData) → Showed seen old c u → At u l ≡ x
 over-answer {B} seen old v c l o x w e f t q g more val u s =
     let b = s.under in
     let later = stands_as seen old v c.reads b w e s.stands in
-    let first = from_passes (seen v.base).writes (seen v.base).world v.reads b (e ∙ w) (stands_tree (seen old.base) c.reads b w s.stands) (passes_front v.reads more.more b (subst (λ rs. Passes rs b) more.is (stands_passes (seen old.base) c.reads b w s.stands))) in
+    let first = from_passes (seen.tells v.base).writes (seen.tells v.base).world v.reads b (e ∙ w) (stands_tree (seen.tells old.base) c.reads b w s.stands) (passes_front v.reads more.more b (subst (λ rs. Passes rs b) more.is (stands_passes (seen.tells old.base) c.reads b w s.stands))) in
     let ov = t.over b first in
     let same : own_of seen old ≡ own_of seen v = λ i. own (sym e i) (sym f i) in
     let lacking : lacks o l ≡ false = ap (λ y. lacks y l) t.is ∙ none-lacking seen v l b (Applied (own_of seen v) b) (subst (λ y. IsSettled l y v.reads) t.is q) (subst (λ y. Over y b (Applied (own_of seen v) b)) t.is ov) in
-    ap (λ y. At y l) (s.over ∙ ap (λ es. Applied es b) same) ∙ over-shown l o b (Applied (own_of seen v) b) ov (stands_tree (seen old.base) c.reads b w s.stands) lacking g ∙ val b later
+    ap (λ y. At y l) (s.over ∙ ap (λ es. Applied es b) same) ∙ over-shown l o b (Applied (own_of seen v) b) ov (stands_tree (seen.tells old.base) c.reads b w s.stands) lacking g ∙ val b later
 
 -- ---- kinds of values
 
@@ -213,7 +213,7 @@ pub ends-stay : (old new : ReadList) → Untold loc.Routes old new → ends_in n
 ends-stay old new u = u.ends routes_not_ends
 
 -- a read that tells nothing of the tables leaves them
-pub tables-stay : {B : Type 0} (seen : B → SeenData) (v c : Viewed B) (l : Loc) (o : OverlayData) → (seen c.base).writes ≡ (seen v.base).writes → c.effects ≡ v.effects → Untold l v.reads c.reads → is_of_tables l ≡ false → o ≡ tables_of seen v → o ≡ tables_of seen c
+pub tables-stay : {B : Type 0} (seen : Shows B) (v c : Viewed B) (l : Loc) (o : OverlayData) → (seen.tells c.base).writes ≡ (seen.tells v.base).writes → c.effects ≡ v.effects → Untold l v.reads c.reads → is_of_tables l ≡ false → o ≡ tables_of seen v → o ≡ tables_of seen c
 tables-stay {B} seen v c l o w e un h is =
     let p = untold l h in
     is ∙ (λ i. over_all (own (sym w i) (sym e i)) (no_overlay (sym (un.ends p.0) i) (sym (un.routes p.1) i)))

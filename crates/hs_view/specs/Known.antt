@@ -10,7 +10,7 @@ use Rattle.hs_world.specs.World.{WorldData, Applied}
 use Rattle.hs_overlay.specs.Over.{Over}
 use Rattle.hs_overlay.specs.Overlay.{OverlayData, no_overlay, over_all}
 use Rattle.hs_overlay.specs.Shown.{lacks}
-use Rattle.hs_view.specs.Seen.{SeenData}
+use Rattle.hs_view.specs.Seen.{Shows}
 use Rattle.hs_view.specs.View.{Viewed, Stands, own_of}
 
 abbrev pub ends_or : Loc → Value → Option (List Route) → Option (List Route)
@@ -38,7 +38,7 @@ is_of_tables loc.Routes = true
 is_of_tables _ = false
 
 -- what the effects that the base does not have make of its state
-abbrev pub tables_of : {B : Type 0} → (B → SeenData) → Viewed B → OverlayData
+abbrev pub tables_of : {B : Type 0} → Shows B → Viewed B → OverlayData
 tables_of seen v = over_all (own_of seen v) (no_overlay (ends_in v.reads) (routes_in v.reads))
 
 -- ---- whether a location hangs on more than is known
@@ -60,6 +60,6 @@ pub record Untold (l : Loc) (old new : ReadList) : Type 0 where
   pub routes : (l ≡ loc.Routes → ⊥) → routes_in new ≡ routes_in old
 
 -- These are the tables of a view's effects, and the states that it shows are so over its base's.
-pub record Tabled {B : Type 0} (seen : B → SeenData) (v : Viewed B) (o : OverlayData) : Type 0 where
+pub record Tabled {B : Type 0} (seen : Shows B) (v : Viewed B) (o : OverlayData) : Type 0 where
   pub is : o ≡ tables_of seen v
-  pub over : (b : WorldData) → Stands (seen v.base) v.reads b → Over o b (Applied (own_of seen v) b)
+  pub over : (b : WorldData) → Stands (seen.tells v.base) v.reads b → Over o b (Applied (own_of seen v) b)

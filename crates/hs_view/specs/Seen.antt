@@ -94,9 +94,35 @@ entry argv w (Err _) = []
 abbrev pub Gained : SeenData → SeenData → List (List ℕ) → Result Reply Halt → Type 0
 Gained old new argv result = (u : WorldData) → old.world ≡ Some u → new.asked ≡ old.asked ++ entry argv u result
 
--- After a refusal a told state is as it was, or has this one effect.
-abbrev pub IsLeft : Effect → Option WorldData → Option WorldData → Type 0
-IsLeft e old new = (new ≡ old) ⊎ (new ≡ option_map (Apply e) old)
+-- What contracts see of all bases of one kind: what each tells, and what effects make of one. What a base that writes keeps beside its
+-- state, as streams, it tells by `made` and `tried`.
+pub record Shows (B : Type 0) : Type 1 where
+  pub tells : B → SeenData
+  -- these effects, done one after another, made the second of the first
+  pub made : List Effect → B → B → Type 0
+  -- this effect, which failed on the way, made the second of the first
+  pub tried : Effect → B → B → Type 0
+  pub made_none : (b : B) → made [] b b
+  pub made_then : (es fs : List Effect) (a b c : B) → made es a b → made fs b c → made (es ++ fs) a c
+
+-- a base of which effects tell no more
+abbrev pub alone : {B : Type 0} → (B → SeenData) → Shows B
+alone tells = record {
+  tells = tells;
+  made = λ es a b. Unit {0};
+  tried = λ e a b. Unit {0};
+  made_none = λ b. tt;
+  made_then = λ es fs a b c p q. tt;
+}
+
+-- Nothing was done: a state that is told stays, and the base is what no effect made of it.
+abbrev pub Still : {B : Type 0} → Shows B → B → B → Type 0
+Still s old new = ((s.tells new).world ≡ (s.tells old).world) × ((s.tells old).writes ≡ true → s.made [] old new)
+
+-- After a refusal a base that writes is as it was, or its state has this one effect, which failed on the way to what else there is.
+abbrev pub IsLeft : {B : Type 0} → Shows B → Effect → B → B → Type 0
+IsLeft s e old new =
+    (((s.tells new).world ≡ (s.tells old).world) × s.made [] old new) ⊎ (((s.tells new).world ≡ option_map (Apply e) (s.tells old).world) × s.tried e old new)
 
 -- the state after an effect, if the base writes
 abbrev pub pushed : Bool → Effect → Option WorldData → Option WorldData

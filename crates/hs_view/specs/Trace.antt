@@ -3,7 +3,7 @@ use Rattle.std.specs.Prelude.{ℕ, Bool, false, List, [], Option, None}
 use Rattle.hs_world.specs.Reads.{ReadList}
 use Rattle.hs_world.specs.declared.effect.Effect.{Effect}
 use Rattle.hs_overlay.specs.Overlay.{OverlayData}
-use Rattle.hs_view.specs.Seen.{SeenData}
+use Rattle.hs_view.specs.Seen.{Shows, alone}
 use Rattle.hs_view.specs.Sound.{IsSound}
 use Rattle.hs_view.specs.View.{Viewed}
 
@@ -14,8 +14,8 @@ pub record TraceData : Type 0 where
   pub written : Bool
 
 -- a base of which no more is known than whether it writes
-abbrev pub seen_alone : Bool → SeenData
-seen_alone writes = record { world = None; asked = []; writes = writes; runs = false; faults = 0 }
+abbrev pub seen_alone : Shows Bool
+seen_alone = alone (λ writes. record { world = None; asked = []; writes = writes; runs = false; faults = 0 })
 
 abbrev pub over_alone : TraceData → Viewed Bool
 over_alone t = record { base = t.written; reads = t.reads; effects = t.effects; trace = 0 }

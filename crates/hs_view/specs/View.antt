@@ -4,7 +4,7 @@ use Rattle.hs_world.specs.Reads.{ReadList, Passes}
 use Rattle.hs_world.specs.World.{WorldData, Applied}
 use Rattle.hs_world.specs.declared.effect.Effect.{Effect}
 pub use Rattle.hs_world.specs.Files.{IsTree}
-use Rattle.hs_view.specs.Seen.{SeenData}
+use Rattle.hs_view.specs.Seen.{SeenData, Shows}
 
 -- What contracts see of a view over a base.
 pub record Viewed (B : Type 0) : Type 0 where
@@ -23,8 +23,8 @@ abbrev pub own : Bool → List Effect → List Effect
 own true es = []
 own false es = es
 
-abbrev pub own_of : {B : Type 0} → (B → SeenData) → Viewed B → List Effect
-own_of seen v = own (seen v.base).writes v.effects
+abbrev pub own_of : {B : Type 0} → Shows B → Viewed B → List Effect
+own_of seen v = own (seen.tells v.base).writes v.effects
 
 -- A base's state, as far as it is known: any that passes the reads, or the one that a base that writes tells.
 abbrev pub stands_by : Bool → Option WorldData → ReadList → WorldData → Type 0
@@ -36,9 +36,9 @@ Stands s reads b = stands_by s.writes s.world reads b
 
 -- The view showed this state when it was `old`, by what was read until it was `new`: over a base that does not write, any state
 -- that passes these reads, with the effects until `old`; over another, the state that the base told at `old`.
-pub record Showed {B : Type 0} (seen : B → SeenData) (old new : Viewed B) (shown : WorldData) : Type 0 where
+pub record Showed {B : Type 0} (seen : Shows B) (old new : Viewed B) (shown : WorldData) : Type 0 where
   pub under : WorldData
-  pub stands : Stands (seen old.base) new.reads under
+  pub stands : Stands (seen.tells old.base) new.reads under
   pub over : shown ≡ Applied (own_of seen old) under
 
 -- ---- what each call keeps
@@ -53,27 +53,31 @@ abbrev pub moved_by : Bool → List Effect → Option WorldData → Option World
 moved_by false es o = o
 moved_by true es o = option_map (Applied es) o
 
+-- what effects made of a base
+abbrev pub Moves : {B : Type 0} → Shows B → List Effect → B → B → Type 0
+Moves seen es old new = ((seen.tells new).world ≡ moved_by (seen.tells old).writes es (seen.tells old).world) × ((seen.tells old).writes ≡ true → seen.made es old new)
+
 -- The base tells this state, and the reads are its values.
-abbrev pub Told : {B : Type 0} → (B → SeenData) → Viewed B → WorldData → Type 0
-Told seen v w = ((seen v.base).world ≡ Some w) × Passes v.reads w
+abbrev pub Told : {B : Type 0} → Shows B → Viewed B → WorldData → Type 0
+Told seen v w = ((seen.tells v.base).world ≡ Some w) × Passes v.reads w
 
 -- What a call on a view keeps. Earlier reads and effects stay in front. A base that does not write keeps its state; with an answer,
 -- one that writes has the new effects.
-pub record Keeps {B A H : Type 0} (seen : B → SeenData) (old new : Viewed B) (result : Result A H) : Type 0 where
+pub record Keeps {B A H : Type 0} (seen : Shows B) (old new : Viewed B) (result : Result A H) : Type 0 where
   pub trace : new.trace ≡ old.trace
-  pub writes : (seen new.base).writes ≡ (seen old.base).writes
-  pub runs : (seen new.base).runs ≡ (seen old.base).runs
-  pub asked : (seen new.base).asked ≡ (seen old.base).asked
-  pub later : (seen old.base).faults ≤ (seen new.base).faults
+  pub writes : (seen.tells new.base).writes ≡ (seen.tells old.base).writes
+  pub runs : (seen.tells new.base).runs ≡ (seen.tells old.base).runs
+  pub asked : (seen.tells new.base).asked ≡ (seen.tells old.base).asked
+  pub later : (seen.tells old.base).faults ≤ (seen.tells new.base).faults
   pub reads : Grows old.reads new.reads
   pub effects : Grows old.effects new.effects
   -- over a base that writes nothing is recorded
-  pub plain : (seen old.base).writes ≡ true → new.reads ≡ old.reads
+  pub plain : (seen.tells old.base).writes ≡ true → new.reads ≡ old.reads
   -- over a base that does not write, a state that is told and passes the reads stays so
-  pub told : (seen old.base).writes ≡ false → (w : WorldData) → Told seen old w → Told seen new w
-  pub still : (seen old.base).writes ≡ false → (seen new.base).world ≡ (seen old.base).world
-  pub moved : OnOk result ((made : List Effect) → new.effects ≡ old.effects ++ made → (seen new.base).world ≡ moved_by (seen old.base).writes made (seen old.base).world)
+  pub told : (seen.tells old.base).writes ≡ false → (w : WorldData) → Told seen old w → Told seen new w
+  pub still : (seen.tells old.base).writes ≡ false → (seen.tells new.base).world ≡ (seen.tells old.base).world
+  pub moved : OnOk result ((made : List Effect) → new.effects ≡ old.effects ++ made → Moves seen made old.base new.base)
 
 -- the same, but for the list of runs: for commands that ask for programs
-abbrev pub quiet : {B : Type 0} → (B → SeenData) → B → SeenData
-quiet seen b = record (seen b) { asked = [] }
+abbrev pub quiet : {B : Type 0} → Shows B → Shows B
+quiet seen = record seen { tells = λ b. record (seen.tells b) { asked = [] } }

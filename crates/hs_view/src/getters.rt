@@ -3,6 +3,7 @@
 ghost use Rattle.std.specs.Prelude.{◌≡◌, ◌≢◌, ◌≤◌, ◌<◌, ◌↔◌, true, false, IfOk, Err};
 ghost use Rattle.std.specs.FinMap as map;
 ghost use Rattle.hs_view.specs.Causes.{Rose};
+ghost use Rattle.hs_view.specs.Seen.{Still};
 ghost use Rattle.hs_view.specs.Size.{trace_size};
 ghost use Rattle.hs_view.specs.View.{Keeps, Showed};
 ghost use Rattle.hs_world.specs.Files.{bytes_of, entry_at, kind_of, names_of};
@@ -20,11 +21,11 @@ impl<B: Base> View<B> {
     pub fn kind(&mut self, path: &PathName) -> Result<Kind, Halt>
         ensures answer { IfOk result (λ kind. (u : WorldData) → Showed B.seen self.old self.new u → kind_of (entry_at u.tree path.now) ≡ kind) }
         ensures effects { self.new.effects ≡ self.old.effects }
-        ensures world { (B.seen self.new.base).world ≡ (B.seen self.old.base).world }
+        ensures world { Still B.seen self.old.base self.new.base }
         ensures keeps { Keeps B.seen self.old self.new result }
-        ensures fault { result ≡ Err Halt.Fault → Rose (B.seen self.old.base).faults (B.seen self.new.base).faults }
-        ensures trace { (B.seen self.old.base).writes ≡ false → trace_size self.old.reads self.old.effects ≤ self.old.trace → (result ≡ Err Halt.Trace ↔ self.new.trace < trace_size self.new.reads self.new.effects) }
-        ensures through { (B.seen self.old.base).writes ≡ true → result ≢ Err Halt.Trace }
+        ensures fault { result ≡ Err Halt.Fault → Rose (B.seen.tells self.old.base).faults (B.seen.tells self.new.base).faults }
+        ensures trace { (B.seen.tells self.old.base).writes ≡ false → trace_size self.old.reads self.old.effects ≤ self.old.trace → (result ≡ Err Halt.Trace ↔ self.new.trace < trace_size self.new.reads self.new.effects) }
+        ensures through { (B.seen.tells self.old.base).writes ≡ true → result ≢ Err Halt.Trace }
         ensures spent { (k : SpentKind) → result ≢ Err (Halt.Spent k) }
         ensures outside { result ≢ Err Halt.Outside }
     {
@@ -39,11 +40,11 @@ impl<B: Base> View<B> {
     pub fn bytes(&mut self, path: &PathName) -> Result<Option<Text>, Halt>
         ensures answer { IfOk result (λ bytes. (u : WorldData) → Showed B.seen self.old self.new u → bytes_of (entry_at u.tree path.now) ≡ bytes) }
         ensures effects { self.new.effects ≡ self.old.effects }
-        ensures world { (B.seen self.new.base).world ≡ (B.seen self.old.base).world }
+        ensures world { Still B.seen self.old.base self.new.base }
         ensures keeps { Keeps B.seen self.old self.new result }
-        ensures fault { result ≡ Err Halt.Fault → Rose (B.seen self.old.base).faults (B.seen self.new.base).faults }
-        ensures trace { (B.seen self.old.base).writes ≡ false → trace_size self.old.reads self.old.effects ≤ self.old.trace → (result ≡ Err Halt.Trace ↔ self.new.trace < trace_size self.new.reads self.new.effects) }
-        ensures through { (B.seen self.old.base).writes ≡ true → result ≢ Err Halt.Trace }
+        ensures fault { result ≡ Err Halt.Fault → Rose (B.seen.tells self.old.base).faults (B.seen.tells self.new.base).faults }
+        ensures trace { (B.seen.tells self.old.base).writes ≡ false → trace_size self.old.reads self.old.effects ≤ self.old.trace → (result ≡ Err Halt.Trace ↔ self.new.trace < trace_size self.new.reads self.new.effects) }
+        ensures through { (B.seen.tells self.old.base).writes ≡ true → result ≢ Err Halt.Trace }
         ensures spent { (k : SpentKind) → result ≢ Err (Halt.Spent k) }
         ensures outside { result ≢ Err Halt.Outside }
     {
@@ -58,11 +59,11 @@ impl<B: Base> View<B> {
     pub fn names(&mut self, path: &PathName) -> Result<Option<TextList>, Halt>
         ensures answer { IfOk result (λ names. (u : WorldData) → Showed B.seen self.old self.new u → names_of u.tree path.now ≡ names) }
         ensures effects { self.new.effects ≡ self.old.effects }
-        ensures world { (B.seen self.new.base).world ≡ (B.seen self.old.base).world }
+        ensures world { Still B.seen self.old.base self.new.base }
         ensures keeps { Keeps B.seen self.old self.new result }
-        ensures fault { result ≡ Err Halt.Fault → Rose (B.seen self.old.base).faults (B.seen self.new.base).faults }
-        ensures trace { (B.seen self.old.base).writes ≡ false → trace_size self.old.reads self.old.effects ≤ self.old.trace → (result ≡ Err Halt.Trace ↔ self.new.trace < trace_size self.new.reads self.new.effects) }
-        ensures through { (B.seen self.old.base).writes ≡ true → result ≢ Err Halt.Trace }
+        ensures fault { result ≡ Err Halt.Fault → Rose (B.seen.tells self.old.base).faults (B.seen.tells self.new.base).faults }
+        ensures trace { (B.seen.tells self.old.base).writes ≡ false → trace_size self.old.reads self.old.effects ≤ self.old.trace → (result ≡ Err Halt.Trace ↔ self.new.trace < trace_size self.new.reads self.new.effects) }
+        ensures through { (B.seen.tells self.old.base).writes ≡ true → result ≢ Err Halt.Trace }
         ensures spent { (k : SpentKind) → result ≢ Err (Halt.Spent k) }
         ensures outside { result ≢ Err Halt.Outside }
     {
@@ -77,11 +78,11 @@ impl<B: Base> View<B> {
     pub fn var(&mut self, name: &Text) -> Result<Option<Var>, Halt>
         ensures answer { IfOk result (λ var. (u : WorldData) → Showed B.seen self.old self.new u → map.get u.vars name.now ≡ var) }
         ensures effects { self.new.effects ≡ self.old.effects }
-        ensures world { (B.seen self.new.base).world ≡ (B.seen self.old.base).world }
+        ensures world { Still B.seen self.old.base self.new.base }
         ensures keeps { Keeps B.seen self.old self.new result }
-        ensures fault { result ≡ Err Halt.Fault → Rose (B.seen self.old.base).faults (B.seen self.new.base).faults }
-        ensures trace { (B.seen self.old.base).writes ≡ false → trace_size self.old.reads self.old.effects ≤ self.old.trace → (result ≡ Err Halt.Trace ↔ self.new.trace < trace_size self.new.reads self.new.effects) }
-        ensures through { (B.seen self.old.base).writes ≡ true → result ≢ Err Halt.Trace }
+        ensures fault { result ≡ Err Halt.Fault → Rose (B.seen.tells self.old.base).faults (B.seen.tells self.new.base).faults }
+        ensures trace { (B.seen.tells self.old.base).writes ≡ false → trace_size self.old.reads self.old.effects ≤ self.old.trace → (result ≡ Err Halt.Trace ↔ self.new.trace < trace_size self.new.reads self.new.effects) }
+        ensures through { (B.seen.tells self.old.base).writes ≡ true → result ≢ Err Halt.Trace }
         ensures spent { (k : SpentKind) → result ≢ Err (Halt.Spent k) }
         ensures outside { result ≢ Err Halt.Outside }
     {
@@ -96,11 +97,11 @@ impl<B: Base> View<B> {
     pub fn func(&mut self, name: &Text) -> Result<Option<u32>, Halt>
         ensures answer { IfOk result (λ body. (u : WorldData) → Showed B.seen self.old self.new u → map.get u.funcs name.now ≡ body) }
         ensures effects { self.new.effects ≡ self.old.effects }
-        ensures world { (B.seen self.new.base).world ≡ (B.seen self.old.base).world }
+        ensures world { Still B.seen self.old.base self.new.base }
         ensures keeps { Keeps B.seen self.old self.new result }
-        ensures fault { result ≡ Err Halt.Fault → Rose (B.seen self.old.base).faults (B.seen self.new.base).faults }
-        ensures trace { (B.seen self.old.base).writes ≡ false → trace_size self.old.reads self.old.effects ≤ self.old.trace → (result ≡ Err Halt.Trace ↔ self.new.trace < trace_size self.new.reads self.new.effects) }
-        ensures through { (B.seen self.old.base).writes ≡ true → result ≢ Err Halt.Trace }
+        ensures fault { result ≡ Err Halt.Fault → Rose (B.seen.tells self.old.base).faults (B.seen.tells self.new.base).faults }
+        ensures trace { (B.seen.tells self.old.base).writes ≡ false → trace_size self.old.reads self.old.effects ≤ self.old.trace → (result ≡ Err Halt.Trace ↔ self.new.trace < trace_size self.new.reads self.new.effects) }
+        ensures through { (B.seen.tells self.old.base).writes ≡ true → result ≢ Err Halt.Trace }
         ensures spent { (k : SpentKind) → result ≢ Err (Halt.Spent k) }
         ensures outside { result ≢ Err Halt.Outside }
     {
@@ -115,11 +116,11 @@ impl<B: Base> View<B> {
     pub fn params(&mut self) -> Result<(Text, TextList), Halt>
         ensures answer { IfOk result (λ both. (u : WorldData) → Showed B.seen self.old self.new u → (u.zero, u.params) ≡ both) }
         ensures effects { self.new.effects ≡ self.old.effects }
-        ensures world { (B.seen self.new.base).world ≡ (B.seen self.old.base).world }
+        ensures world { Still B.seen self.old.base self.new.base }
         ensures keeps { Keeps B.seen self.old self.new result }
-        ensures fault { result ≡ Err Halt.Fault → Rose (B.seen self.old.base).faults (B.seen self.new.base).faults }
-        ensures trace { (B.seen self.old.base).writes ≡ false → trace_size self.old.reads self.old.effects ≤ self.old.trace → (result ≡ Err Halt.Trace ↔ self.new.trace < trace_size self.new.reads self.new.effects) }
-        ensures through { (B.seen self.old.base).writes ≡ true → result ≢ Err Halt.Trace }
+        ensures fault { result ≡ Err Halt.Fault → Rose (B.seen.tells self.old.base).faults (B.seen.tells self.new.base).faults }
+        ensures trace { (B.seen.tells self.old.base).writes ≡ false → trace_size self.old.reads self.old.effects ≤ self.old.trace → (result ≡ Err Halt.Trace ↔ self.new.trace < trace_size self.new.reads self.new.effects) }
+        ensures through { (B.seen.tells self.old.base).writes ≡ true → result ≢ Err Halt.Trace }
         ensures spent { (k : SpentKind) → result ≢ Err (Halt.Spent k) }
         ensures outside { result ≢ Err Halt.Outside }
     {
@@ -133,11 +134,11 @@ impl<B: Base> View<B> {
     pub fn status(&mut self) -> Result<u8, Halt>
         ensures answer { IfOk result (λ status. (u : WorldData) → Showed B.seen self.old self.new u → u.status ≡ status) }
         ensures effects { self.new.effects ≡ self.old.effects }
-        ensures world { (B.seen self.new.base).world ≡ (B.seen self.old.base).world }
+        ensures world { Still B.seen self.old.base self.new.base }
         ensures keeps { Keeps B.seen self.old self.new result }
-        ensures fault { result ≡ Err Halt.Fault → Rose (B.seen self.old.base).faults (B.seen self.new.base).faults }
-        ensures trace { (B.seen self.old.base).writes ≡ false → trace_size self.old.reads self.old.effects ≤ self.old.trace → (result ≡ Err Halt.Trace ↔ self.new.trace < trace_size self.new.reads self.new.effects) }
-        ensures through { (B.seen self.old.base).writes ≡ true → result ≢ Err Halt.Trace }
+        ensures fault { result ≡ Err Halt.Fault → Rose (B.seen.tells self.old.base).faults (B.seen.tells self.new.base).faults }
+        ensures trace { (B.seen.tells self.old.base).writes ≡ false → trace_size self.old.reads self.old.effects ≤ self.old.trace → (result ≡ Err Halt.Trace ↔ self.new.trace < trace_size self.new.reads self.new.effects) }
+        ensures through { (B.seen.tells self.old.base).writes ≡ true → result ≢ Err Halt.Trace }
         ensures spent { (k : SpentKind) → result ≢ Err (Halt.Spent k) }
         ensures outside { result ≢ Err Halt.Outside }
     {
@@ -151,11 +152,11 @@ impl<B: Base> View<B> {
     pub fn cwd(&mut self) -> Result<PathName, Halt>
         ensures answer { IfOk result (λ path. (u : WorldData) → Showed B.seen self.old self.new u → u.cwd ≡ path) }
         ensures effects { self.new.effects ≡ self.old.effects }
-        ensures world { (B.seen self.new.base).world ≡ (B.seen self.old.base).world }
+        ensures world { Still B.seen self.old.base self.new.base }
         ensures keeps { Keeps B.seen self.old self.new result }
-        ensures fault { result ≡ Err Halt.Fault → Rose (B.seen self.old.base).faults (B.seen self.new.base).faults }
-        ensures trace { (B.seen self.old.base).writes ≡ false → trace_size self.old.reads self.old.effects ≤ self.old.trace → (result ≡ Err Halt.Trace ↔ self.new.trace < trace_size self.new.reads self.new.effects) }
-        ensures through { (B.seen self.old.base).writes ≡ true → result ≢ Err Halt.Trace }
+        ensures fault { result ≡ Err Halt.Fault → Rose (B.seen.tells self.old.base).faults (B.seen.tells self.new.base).faults }
+        ensures trace { (B.seen.tells self.old.base).writes ≡ false → trace_size self.old.reads self.old.effects ≤ self.old.trace → (result ≡ Err Halt.Trace ↔ self.new.trace < trace_size self.new.reads self.new.effects) }
+        ensures through { (B.seen.tells self.old.base).writes ≡ true → result ≢ Err Halt.Trace }
         ensures spent { (k : SpentKind) → result ≢ Err (Halt.Spent k) }
         ensures outside { result ≢ Err Halt.Outside }
     {
@@ -169,11 +170,11 @@ impl<B: Base> View<B> {
     pub fn opts(&mut self) -> Result<Opts, Halt>
         ensures answer { IfOk result (λ opts. (u : WorldData) → Showed B.seen self.old self.new u → u.opts ≡ opts) }
         ensures effects { self.new.effects ≡ self.old.effects }
-        ensures world { (B.seen self.new.base).world ≡ (B.seen self.old.base).world }
+        ensures world { Still B.seen self.old.base self.new.base }
         ensures keeps { Keeps B.seen self.old self.new result }
-        ensures fault { result ≡ Err Halt.Fault → Rose (B.seen self.old.base).faults (B.seen self.new.base).faults }
-        ensures trace { (B.seen self.old.base).writes ≡ false → trace_size self.old.reads self.old.effects ≤ self.old.trace → (result ≡ Err Halt.Trace ↔ self.new.trace < trace_size self.new.reads self.new.effects) }
-        ensures through { (B.seen self.old.base).writes ≡ true → result ≢ Err Halt.Trace }
+        ensures fault { result ≡ Err Halt.Fault → Rose (B.seen.tells self.old.base).faults (B.seen.tells self.new.base).faults }
+        ensures trace { (B.seen.tells self.old.base).writes ≡ false → trace_size self.old.reads self.old.effects ≤ self.old.trace → (result ≡ Err Halt.Trace ↔ self.new.trace < trace_size self.new.reads self.new.effects) }
+        ensures through { (B.seen.tells self.old.base).writes ≡ true → result ≢ Err Halt.Trace }
         ensures spent { (k : SpentKind) → result ≢ Err (Halt.Spent k) }
         ensures outside { result ≢ Err Halt.Outside }
     {
@@ -187,11 +188,11 @@ impl<B: Base> View<B> {
     pub fn input(&mut self) -> Result<Text, Halt>
         ensures answer { IfOk result (λ text. (u : WorldData) → Showed B.seen self.old self.new u → u.input ≡ text) }
         ensures effects { self.new.effects ≡ self.old.effects }
-        ensures world { (B.seen self.new.base).world ≡ (B.seen self.old.base).world }
+        ensures world { Still B.seen self.old.base self.new.base }
         ensures keeps { Keeps B.seen self.old self.new result }
-        ensures fault { result ≡ Err Halt.Fault → Rose (B.seen self.old.base).faults (B.seen self.new.base).faults }
-        ensures trace { (B.seen self.old.base).writes ≡ false → trace_size self.old.reads self.old.effects ≤ self.old.trace → (result ≡ Err Halt.Trace ↔ self.new.trace < trace_size self.new.reads self.new.effects) }
-        ensures through { (B.seen self.old.base).writes ≡ true → result ≢ Err Halt.Trace }
+        ensures fault { result ≡ Err Halt.Fault → Rose (B.seen.tells self.old.base).faults (B.seen.tells self.new.base).faults }
+        ensures trace { (B.seen.tells self.old.base).writes ≡ false → trace_size self.old.reads self.old.effects ≤ self.old.trace → (result ≡ Err Halt.Trace ↔ self.new.trace < trace_size self.new.reads self.new.effects) }
+        ensures through { (B.seen.tells self.old.base).writes ≡ true → result ≢ Err Halt.Trace }
         ensures spent { (k : SpentKind) → result ≢ Err (Halt.Spent k) }
         ensures outside { result ≢ Err Halt.Outside }
     {
@@ -205,11 +206,11 @@ impl<B: Base> View<B> {
     pub fn routes(&mut self) -> Result<Routes, Halt>
         ensures answer { IfOk result (λ routes. (u : WorldData) → Showed B.seen self.old self.new u → u.table.routes ≡ routes) }
         ensures effects { self.new.effects ≡ self.old.effects }
-        ensures world { (B.seen self.new.base).world ≡ (B.seen self.old.base).world }
+        ensures world { Still B.seen self.old.base self.new.base }
         ensures keeps { Keeps B.seen self.old self.new result }
-        ensures fault { result ≡ Err Halt.Fault → Rose (B.seen self.old.base).faults (B.seen self.new.base).faults }
-        ensures trace { (B.seen self.old.base).writes ≡ false → trace_size self.old.reads self.old.effects ≤ self.old.trace → (result ≡ Err Halt.Trace ↔ self.new.trace < trace_size self.new.reads self.new.effects) }
-        ensures through { (B.seen self.old.base).writes ≡ true → result ≢ Err Halt.Trace }
+        ensures fault { result ≡ Err Halt.Fault → Rose (B.seen.tells self.old.base).faults (B.seen.tells self.new.base).faults }
+        ensures trace { (B.seen.tells self.old.base).writes ≡ false → trace_size self.old.reads self.old.effects ≤ self.old.trace → (result ≡ Err Halt.Trace ↔ self.new.trace < trace_size self.new.reads self.new.effects) }
+        ensures through { (B.seen.tells self.old.base).writes ≡ true → result ≢ Err Halt.Trace }
         ensures spent { (k : SpentKind) → result ≢ Err (Halt.Spent k) }
         ensures outside { result ≢ Err Halt.Outside }
     {
@@ -223,11 +224,11 @@ impl<B: Base> View<B> {
     pub fn ends(&mut self) -> Result<Routes, Halt>
         ensures answer { IfOk result (λ routes. (u : WorldData) → Showed B.seen self.old self.new u → ends_of (all_tables u) ≡ routes) }
         ensures effects { self.new.effects ≡ self.old.effects }
-        ensures world { (B.seen self.new.base).world ≡ (B.seen self.old.base).world }
+        ensures world { Still B.seen self.old.base self.new.base }
         ensures keeps { Keeps B.seen self.old self.new result }
-        ensures fault { result ≡ Err Halt.Fault → Rose (B.seen self.old.base).faults (B.seen self.new.base).faults }
-        ensures trace { (B.seen self.old.base).writes ≡ false → trace_size self.old.reads self.old.effects ≤ self.old.trace → (result ≡ Err Halt.Trace ↔ self.new.trace < trace_size self.new.reads self.new.effects) }
-        ensures through { (B.seen self.old.base).writes ≡ true → result ≢ Err Halt.Trace }
+        ensures fault { result ≡ Err Halt.Fault → Rose (B.seen.tells self.old.base).faults (B.seen.tells self.new.base).faults }
+        ensures trace { (B.seen.tells self.old.base).writes ≡ false → trace_size self.old.reads self.old.effects ≤ self.old.trace → (result ≡ Err Halt.Trace ↔ self.new.trace < trace_size self.new.reads self.new.effects) }
+        ensures through { (B.seen.tells self.old.base).writes ≡ true → result ≢ Err Halt.Trace }
         ensures spent { (k : SpentKind) → result ≢ Err (Halt.Spent k) }
         ensures outside { result ≢ Err Halt.Outside }
     {
@@ -241,11 +242,11 @@ impl<B: Base> View<B> {
     pub fn captured(&mut self) -> Result<Text, Halt>
         ensures answer { IfOk result (λ text. (u : WorldData) → Showed B.seen self.old self.new u → captured_in (all_tables u) ≡ text) }
         ensures effects { self.new.effects ≡ self.old.effects }
-        ensures world { (B.seen self.new.base).world ≡ (B.seen self.old.base).world }
+        ensures world { Still B.seen self.old.base self.new.base }
         ensures keeps { Keeps B.seen self.old self.new result }
-        ensures fault { result ≡ Err Halt.Fault → Rose (B.seen self.old.base).faults (B.seen self.new.base).faults }
-        ensures trace { (B.seen self.old.base).writes ≡ false → trace_size self.old.reads self.old.effects ≤ self.old.trace → (result ≡ Err Halt.Trace ↔ self.new.trace < trace_size self.new.reads self.new.effects) }
-        ensures through { (B.seen self.old.base).writes ≡ true → result ≢ Err Halt.Trace }
+        ensures fault { result ≡ Err Halt.Fault → Rose (B.seen.tells self.old.base).faults (B.seen.tells self.new.base).faults }
+        ensures trace { (B.seen.tells self.old.base).writes ≡ false → trace_size self.old.reads self.old.effects ≤ self.old.trace → (result ≡ Err Halt.Trace ↔ self.new.trace < trace_size self.new.reads self.new.effects) }
+        ensures through { (B.seen.tells self.old.base).writes ≡ true → result ≢ Err Halt.Trace }
         ensures spent { (k : SpentKind) → result ≢ Err (Halt.Spent k) }
         ensures outside { result ≢ Err Halt.Outside }
     {
@@ -259,11 +260,11 @@ impl<B: Base> View<B> {
     pub fn kept(&mut self, descriptor: u8) -> Result<Option<Text>, Halt>
         ensures answer { IfOk result (λ text. (u : WorldData) → Showed B.seen self.old self.new u → map.get u.kept descriptor ≡ text) }
         ensures effects { self.new.effects ≡ self.old.effects }
-        ensures world { (B.seen self.new.base).world ≡ (B.seen self.old.base).world }
+        ensures world { Still B.seen self.old.base self.new.base }
         ensures keeps { Keeps B.seen self.old self.new result }
-        ensures fault { result ≡ Err Halt.Fault → Rose (B.seen self.old.base).faults (B.seen self.new.base).faults }
-        ensures trace { (B.seen self.old.base).writes ≡ false → trace_size self.old.reads self.old.effects ≤ self.old.trace → (result ≡ Err Halt.Trace ↔ self.new.trace < trace_size self.new.reads self.new.effects) }
-        ensures through { (B.seen self.old.base).writes ≡ true → result ≢ Err Halt.Trace }
+        ensures fault { result ≡ Err Halt.Fault → Rose (B.seen.tells self.old.base).faults (B.seen.tells self.new.base).faults }
+        ensures trace { (B.seen.tells self.old.base).writes ≡ false → trace_size self.old.reads self.old.effects ≤ self.old.trace → (result ≡ Err Halt.Trace ↔ self.new.trace < trace_size self.new.reads self.new.effects) }
+        ensures through { (B.seen.tells self.old.base).writes ≡ true → result ≢ Err Halt.Trace }
         ensures spent { (k : SpentKind) → result ≢ Err (Halt.Spent k) }
         ensures outside { result ≢ Err Halt.Outside }
     {

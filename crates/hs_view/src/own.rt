@@ -97,11 +97,11 @@ impl OwnEffects {
 
     /// Puts an effect at the end, and does it in a base that writes. After a refusal it is taken off.
     pub fn push_to<B: Base>(&mut self, base: &mut B, effect: Effect) -> Result<(), Halt>
-        requires writes { (B.seen base.old).writes ≡ true }
-        requires valid { (u : WorldData) → (B.seen base.old).world ≡ Some u → is_valid effect u ≡ true }
+        requires writes { (B.seen.tells base.old).writes ≡ true }
+        requires valid { (u : WorldData) → (B.seen.tells base.old).world ≡ Some u → is_valid effect u ≡ true }
         ensures ok { OnOk result (self.new ≡ self.old ++ effect ∷ []) }
         ensures err { OnErr result (self.new ≡ self.old) }
-        ensures written { Written effect (B.seen base.old) (B.seen base.new) result }
+        ensures written { Written B.seen effect base.old base.new result }
     {
         let mark = Mark::of(&effect);
         if self.pushes.make_room(mark).is_err() {
@@ -116,11 +116,11 @@ impl OwnEffects {
 }
 
 fn push_both<B: Base>(effects: &mut Effects, base: &mut B, effect: Effect) -> Result<(), Halt>
-    requires writes { (B.seen base.old).writes ≡ true }
-    requires valid { (u : WorldData) → (B.seen base.old).world ≡ Some u → is_valid effect u ≡ true }
+    requires writes { (B.seen.tells base.old).writes ≡ true }
+    requires valid { (u : WorldData) → (B.seen.tells base.old).world ≡ Some u → is_valid effect u ≡ true }
     ensures ok { OnOk result (effects.new ≡ effects.old ++ effect ∷ []) }
     ensures err { OnErr result (effects.new ≡ effects.old) }
-    ensures written { Written effect (B.seen base.old) (B.seen base.new) result }
+    ensures written { Written B.seen effect base.old base.new result }
 {
     effects.push(effect)?;
     let last = effects.as_slice().len() - 1;

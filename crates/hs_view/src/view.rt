@@ -2,7 +2,7 @@
 
 ghost use Rattle.std.specs.Prelude.{◌≡◌, ◌≢◌, ◌≤◌, ◌<◌, ◌↔◌, ◌^◌, ◌∷◌, ◌++◌, [], ℕ, true, false, if◌then◌else◌, IfOk, OnOk, OnErr, IfSome, Ok, Err};
 ghost use Rattle.hs_view.specs.Causes.{Rose};
-ghost use Rattle.hs_view.specs.Seen.{Gained, is_of};
+ghost use Rattle.hs_view.specs.Seen.{Gained, Still, is_of};
 ghost use Rattle.hs_view.specs.Fetches.{Fetches};
 ghost use Rattle.hs_view.specs.Known.{ends_in, is_of_tables, routes_in, tables_of, IsNine, IsSettled, IsTold, Tabled, Untold};
 ghost use Rattle.hs_view.specs.Size.{trace_size};
@@ -78,11 +78,11 @@ impl<B: Base> View<B> {
         ensures answer { IfOk result (λ value. (u : WorldData) → Showed B.seen self.old self.new u → At u loc.now ≡ value) }
         ensures shape { IfOk result (λ value. is_of loc.now value ≡ true) }
         ensures effects { self.new.effects ≡ self.old.effects }
-        ensures world { (B.seen self.new.base).world ≡ (B.seen self.old.base).world }
+        ensures world { Still B.seen self.old.base self.new.base }
         ensures keeps { Keeps B.seen self.old self.new result }
-        ensures fault { result ≡ Err Halt.Fault → Rose (B.seen self.old.base).faults (B.seen self.new.base).faults }
-        ensures trace { (B.seen self.old.base).writes ≡ false → trace_size self.old.reads self.old.effects ≤ self.old.trace → (result ≡ Err Halt.Trace ↔ self.new.trace < trace_size self.new.reads self.new.effects) }
-        ensures through { (B.seen self.old.base).writes ≡ true → result ≢ Err Halt.Trace }
+        ensures fault { result ≡ Err Halt.Fault → Rose (B.seen.tells self.old.base).faults (B.seen.tells self.new.base).faults }
+        ensures trace { (B.seen.tells self.old.base).writes ≡ false → trace_size self.old.reads self.old.effects ≤ self.old.trace → (result ≡ Err Halt.Trace ↔ self.new.trace < trace_size self.new.reads self.new.effects) }
+        ensures through { (B.seen.tells self.old.base).writes ≡ true → result ≢ Err Halt.Trace }
         ensures spent { (k : SpentKind) → result ≢ Err (Halt.Spent k) }
         ensures outside { result ≢ Err Halt.Outside }
     {
@@ -94,12 +94,12 @@ impl<B: Base> View<B> {
 
     /// Runs an outside program in the base's state. It adds no effect: what came of it is put by the caller.
     pub fn ask(&mut self, argv: &TextList) -> Result<Reply, Halt>
-        ensures gained { Gained (B.seen self.old.base) (B.seen self.new.base) argv.now result }
+        ensures gained { Gained (B.seen.tells self.old.base) (B.seen.tells self.new.base) argv.now result }
         ensures reads { self.new.reads ≡ self.old.reads }
         ensures effects { self.new.effects ≡ self.old.effects }
         ensures keeps { Keeps (quiet B.seen) self.old self.new result }
-        ensures fault { result ≡ Err Halt.Fault → Rose (B.seen self.old.base).faults (B.seen self.new.base).faults }
-        ensures outside { (result ≡ Err Halt.Outside) ↔ ((B.seen self.old.base).runs ≡ false) }
+        ensures fault { result ≡ Err Halt.Fault → Rose (B.seen.tells self.old.base).faults (B.seen.tells self.new.base).faults }
+        ensures outside { (result ≡ Err Halt.Outside) ↔ ((B.seen.tells self.old.base).runs ≡ false) }
         ensures turns { result ≢ Err (Halt.Spent SpentKind.Turns) }
         ensures bytes { result ≢ Err (Halt.Spent SpentKind.Bytes) }
         ensures frames { result ≢ Err (Halt.Spent SpentKind.Frames) }
@@ -114,9 +114,9 @@ impl<B: Base> View<B> {
         ensures base { result.0 ≡ self.base }
         ensures reads { result.1.reads ≡ self.reads }
         ensures effects { result.1.effects ≡ self.effects }
-        ensures written { result.1.written ≡ (B.seen self.base).writes }
+        ensures written { result.1.written ≡ (B.seen.tells self.base).writes }
         ensures fresh { Fresh self.reads }
-        ensures valid { (B.seen self.base).writes ≡ false → (w : WorldData) → IsTree w.tree → Passes self.reads w → AllValid self.effects w }
+        ensures valid { (B.seen.tells self.base).writes ≡ false → (w : WorldData) → IsTree w.tree → Passes self.reads w → AllValid self.effects w }
     {
         let written = self.base.writes();
         let View {
@@ -141,13 +141,13 @@ impl<B: Base> View<B> {
 
     /// The value at a location of the state that a base that writes tells.
     fn get_now(&mut self, loc: &Loc) -> Result<Value, Halt>
-        requires writes { (B.seen self.old.base).writes ≡ true }
+        requires writes { (B.seen.tells self.old.base).writes ≡ true }
         ensures answer { IfOk result (λ value. (u : WorldData) → Showed B.seen self.old self.new u → At u loc.now ≡ value) }
         ensures shape { IfOk result (λ value. is_of loc.now value ≡ true) }
         ensures effects { self.new.effects ≡ self.old.effects }
-        ensures world { (B.seen self.new.base).world ≡ (B.seen self.old.base).world }
+        ensures world { Still B.seen self.old.base self.new.base }
         ensures keeps { Keeps B.seen self.old self.new result }
-        ensures fault { result ≡ Err Halt.Fault → Rose (B.seen self.old.base).faults (B.seen self.new.base).faults }
+        ensures fault { result ≡ Err Halt.Fault → Rose (B.seen.tells self.old.base).faults (B.seen.tells self.new.base).faults }
         ensures trace { result ≢ Err Halt.Trace }
         ensures spent { (k : SpentKind) → result ≢ Err (Halt.Spent k) }
         ensures outside { result ≢ Err Halt.Outside }
@@ -157,7 +157,7 @@ impl<B: Base> View<B> {
 
     /// The value at a location of a state that is told by reads.
     fn get_over(&mut self, loc: &Loc) -> Result<Value, Halt>
-        requires writes { (B.seen self.old.base).writes ≡ false }
+        requires writes { (B.seen.tells self.old.base).writes ≡ false }
         ensures answer { IfOk result (λ value. (u : WorldData) → Showed B.seen self.old self.new u → At u loc.now ≡ value) }
         ensures shape { IfOk result (λ value. is_of loc.now value ≡ true) }
         ensures fetches { Fetches B.seen self.old self.new result }
@@ -174,9 +174,9 @@ impl<B: Base> View<B> {
 
     /// The value over that of the base at the same location.
     fn get_under(&mut self, overlay: Overlay, loc: &Loc) -> Result<Value, Halt>
-        requires writes { (B.seen self.old.base).writes ≡ false }
+        requires writes { (B.seen.tells self.old.base).writes ≡ false }
         requires tables { overlay ≡ tables_of B.seen self.old }
-        ensures value { IfOk result (λ value. (b : WorldData) → Stands (B.seen self.old.base) self.new.reads b → over_value overlay loc.now (At b loc.now) ≡ value) }
+        ensures value { IfOk result (λ value. (b : WorldData) → Stands (B.seen.tells self.old.base) self.new.reads b → over_value overlay loc.now (At b loc.now) ≡ value) }
         ensures shape { IfOk result (λ value. is_of loc.now value ≡ true) }
         ensures fetches { Fetches B.seen self.old self.new result }
     {
@@ -206,7 +206,7 @@ impl<B: Base> View<B> {
 
     /// The tables of the effects, with what was read of the base's routes. They are kept no more.
     fn tables(&mut self) -> Result<Overlay, Halt>
-        requires writes { (B.seen self.old.base).writes ≡ false }
+        requires writes { (B.seen.tells self.old.base).writes ≡ false }
         ensures tables { IfOk result (λ overlay. Tabled B.seen self.old overlay) }
         ensures same { self.new ≡ self.old }
         ensures halt { (h : Halt) → result ≡ Err h → h ≡ Halt.NoMemory }
@@ -218,7 +218,7 @@ impl<B: Base> View<B> {
     }
 
     fn build(&self) -> Result<Overlay, Halt>
-        requires writes { (B.seen self.now.base).writes ≡ false }
+        requires writes { (B.seen.tells self.now.base).writes ≡ false }
         ensures tables { IfOk result (λ overlay. Tabled B.seen self.now overlay) }
         ensures halt { (h : Halt) → result ≡ Err h → h ≡ Halt.NoMemory }
     {
@@ -230,7 +230,7 @@ impl<B: Base> View<B> {
 
     /// The tables of the effects, with what is known of the base's routes; these are read where the location hangs on them.
     fn settled(&mut self, loc: &Loc) -> Result<Overlay, Halt>
-        requires writes { (B.seen self.old.base).writes ≡ false }
+        requires writes { (B.seen.tells self.old.base).writes ≡ false }
         ensures tables { IfOk result (λ overlay. Tabled B.seen self.new overlay) }
         ensures settled { IfOk result (λ overlay. IsSettled loc.now overlay self.new.reads) }
         ensures fetches { Fetches B.seen self.old self.new result }
@@ -245,7 +245,7 @@ impl<B: Base> View<B> {
     }
 
     fn settled_further(&mut self, loc: &Loc) -> Result<Overlay, Halt>
-        requires writes { (B.seen self.old.base).writes ≡ false }
+        requires writes { (B.seen.tells self.old.base).writes ≡ false }
         requires ends { IsTold (ends_in self.old.reads) }
         ensures tables { IfOk result (λ overlay. Tabled B.seen self.new overlay) }
         ensures settled { IfOk result (λ overlay. IsSettled loc.now overlay self.new.reads) }
@@ -262,7 +262,7 @@ impl<B: Base> View<B> {
 
     /// The tables, unless the value at the location hangs on more than is known.
     fn sure(&mut self, loc: &Loc) -> Result<Option<Overlay>, Halt>
-        requires writes { (B.seen self.old.base).writes ≡ false }
+        requires writes { (B.seen.tells self.old.base).writes ≡ false }
         ensures tables { IfOk result (λ sure. IfSome sure (λ overlay. Tabled B.seen self.new overlay)) }
         ensures settled { IfOk result (λ sure. IfSome sure (λ overlay. lacks overlay loc.now ≡ false)) }
         ensures same { self.new ≡ self.old }
@@ -278,7 +278,7 @@ impl<B: Base> View<B> {
 
     /// Reads where the base's descriptors lead.
     fn learn_ends(&mut self) -> Result<(), Halt>
-        requires writes { (B.seen self.old.base).writes ≡ false }
+        requires writes { (B.seen.tells self.old.base).writes ≡ false }
         ensures known { OnOk result (IsTold (ends_in self.new.reads)) }
         ensures fetches { Fetches B.seen self.old self.new result }
     {
@@ -288,7 +288,7 @@ impl<B: Base> View<B> {
 
     /// Reads the routes of the base's innermost table.
     fn learn_routes(&mut self) -> Result<(), Halt>
-        requires writes { (B.seen self.old.base).writes ≡ false }
+        requires writes { (B.seen.tells self.old.base).writes ≡ false }
         ensures known { OnOk result (IsNine (routes_in self.new.reads)) }
         ensures ends { OnOk result (ends_in self.new.reads ≡ ends_in self.old.reads) }
         ensures fetches { Fetches B.seen self.old self.new result }
@@ -303,13 +303,13 @@ impl<B: Base> View<B> {
     }
 
     fn fetch_now(&mut self, loc: &Loc) -> Result<Value, Halt>
-        requires writes { (B.seen self.old.base).writes ≡ true }
-        ensures answer { IfOk result (λ value. (b : WorldData) → Stands (B.seen self.old.base) self.new.reads b → At b loc.now ≡ value) }
+        requires writes { (B.seen.tells self.old.base).writes ≡ true }
+        ensures answer { IfOk result (λ value. (b : WorldData) → Stands (B.seen.tells self.old.base) self.new.reads b → At b loc.now ≡ value) }
         ensures shape { IfOk result (λ value. is_of loc.now value ≡ true) }
         ensures effects { self.new.effects ≡ self.old.effects }
-        ensures world { (B.seen self.new.base).world ≡ (B.seen self.old.base).world }
+        ensures world { Still B.seen self.old.base self.new.base }
         ensures keeps { Keeps B.seen self.old self.new result }
-        ensures fault { result ≡ Err Halt.Fault → Rose (B.seen self.old.base).faults (B.seen self.new.base).faults }
+        ensures fault { result ≡ Err Halt.Fault → Rose (B.seen.tells self.old.base).faults (B.seen.tells self.new.base).faults }
         ensures trace { result ≢ Err Halt.Trace }
         ensures spent { (k : SpentKind) → result ≢ Err (Halt.Spent k) }
         ensures outside { result ≢ Err Halt.Outside }
@@ -320,15 +320,15 @@ impl<B: Base> View<B> {
 
     /// What the base has at a location, which is in the reads from then on.
     fn fetch_once(&mut self, loc: &Loc) -> Result<Value, Halt>
-        requires writes { (B.seen self.old.base).writes ≡ false }
+        requires writes { (B.seen.tells self.old.base).writes ≡ false }
         ensures read { IfOk result (λ value. IsRead self.new.reads loc.now value) }
         ensures fresh { Fresh self.new.reads }
         ensures known { OnOk result (Untold loc.now self.old.reads self.new.reads) }
-        ensures answer { IfOk result (λ value. (b : WorldData) → Stands (B.seen self.old.base) self.new.reads b → At b loc.now ≡ value) }
+        ensures answer { IfOk result (λ value. (b : WorldData) → Stands (B.seen.tells self.old.base) self.new.reads b → At b loc.now ≡ value) }
         ensures shape { IfOk result (λ value. is_of loc.now value ≡ true) }
         ensures effects { self.new.effects ≡ self.old.effects }
         ensures keeps { Keeps B.seen self.old self.new result }
-        ensures fault { result ≡ Err Halt.Fault → Rose (B.seen self.old.base).faults (B.seen self.new.base).faults }
+        ensures fault { result ≡ Err Halt.Fault → Rose (B.seen.tells self.old.base).faults (B.seen.tells self.new.base).faults }
         ensures trace { trace_size self.old.reads self.old.effects ≤ self.old.trace → (result ≡ Err Halt.Trace ↔ self.new.trace < trace_size self.new.reads self.new.effects) }
         ensures spent { (k : SpentKind) → result ≢ Err (Halt.Spent k) }
         ensures outside { result ≢ Err Halt.Outside }
@@ -348,14 +348,14 @@ fn read_base<B: Base>(base: &mut B, reads: &mut Reads, loc: &Loc) -> Result<Valu
     requires new { IsNew loc.now reads.old }
     ensures read { IfOk result (λ value. reads.new ≡ reads.old ++ (loc.now, value) ∷ []) }
     ensures unread { OnErr result (reads.new ≡ reads.old) }
-    ensures answer { IfOk result (λ value. IfSome (B.seen base.old).world (λ w. At w loc.now ≡ value)) }
+    ensures answer { IfOk result (λ value. IfSome (B.seen.tells base.old).world (λ w. At w loc.now ≡ value)) }
     ensures shape { IfOk result (λ value. is_of loc.now value ≡ true) }
-    ensures world { (B.seen base.new).world ≡ (B.seen base.old).world }
-    ensures asked { (B.seen base.new).asked ≡ (B.seen base.old).asked }
-    ensures writes { (B.seen base.new).writes ≡ (B.seen base.old).writes }
-    ensures runs { (B.seen base.new).runs ≡ (B.seen base.old).runs }
-    ensures later { (B.seen base.old).faults ≤ (B.seen base.new).faults }
-    ensures fault { result ≡ Err Halt.Fault → Rose (B.seen base.old).faults (B.seen base.new).faults }
+    ensures world { (B.seen.tells base.new).world ≡ (B.seen.tells base.old).world }
+    ensures asked { (B.seen.tells base.new).asked ≡ (B.seen.tells base.old).asked }
+    ensures writes { (B.seen.tells base.new).writes ≡ (B.seen.tells base.old).writes }
+    ensures runs { (B.seen.tells base.new).runs ≡ (B.seen.tells base.old).runs }
+    ensures later { (B.seen.tells base.old).faults ≤ (B.seen.tells base.new).faults }
+    ensures fault { result ≡ Err Halt.Fault → Rose (B.seen.tells base.old).faults (B.seen.tells base.new).faults }
     ensures spent { (k : SpentKind) → result ≢ Err (Halt.Spent k) }
     ensures trace { result ≢ Err Halt.Trace }
     ensures outside { result ≢ Err Halt.Outside }

@@ -9,7 +9,7 @@ use Rattle.hs_overlay.specs.Overlay.{no_overlay, over_all}
 use Rattle.hs_overlay.specs.Sizes.{over_passes}
 use Rattle.hs_view.specs.Acts.{Acts, refused_by}
 use Rattle.hs_view.specs.Known.{ends_in, routes_in}
-use Rattle.hs_view.specs.Seen.{SeenData}
+use Rattle.hs_view.specs.Seen.{Shows}
 use Rattle.hs_view.specs.Steps.{Done}
 use Rattle.hs_view.specs.declared.halt.Halt.{Halt}
 use Rattle.hs_view.specs.declared.halt.Halt.TheVariants as halt
@@ -37,15 +37,15 @@ done_in script number reads effects outcome w e = λ more.
     turned number (1 + more) more script w (one-more more) ∙ ap (λ (d : Done Outcome). did d (begin w more [])) e
 
 -- a state that passes what a new view read was shown to it
-pub shown_first : {B : Type 0} (seen : B → SeenData) (old new : Viewed B) (w : WorldData) → (seen old.base).writes ≡ false → old.effects ≡ [] → IsTree w.tree → Passes new.reads w → Showed seen old new w
+pub shown_first : {B : Type 0} (seen : Shows B) (old new : Viewed B) (w : WorldData) → (seen.tells old.base).writes ≡ false → old.effects ≡ [] → IsTree w.tree → Passes new.reads w → Showed seen old new w
 shown_first seen old new w writes none tree passes = record {
   under = w;
-  stands = subst (λ (b : Bool). stands_by b (seen old.base).world new.reads w) (sym writes) (tree, passes);
+  stands = subst (λ (b : Bool). stands_by b (seen.tells old.base).world new.reads w) (sym writes) (tree, passes);
   over = sym (ap (λ (b : Bool). Applied (own b old.effects) w) writes ∙ ap (λ (es : List Effect). Applied es w) none);
 }
 
 -- what a leaf that came to an outcome has done
-pub done_first : {B : Type 0} (seen : B → SeenData) (meaning : WorldData → Done Outcome) (old new : Viewed B) (outcome : Outcome) (w : WorldData) → (seen old.base).writes ≡ false → old.effects ≡ []
+pub done_first : {B : Type 0} (seen : Shows B) (meaning : WorldData → Done Outcome) (old new : Viewed B) (outcome : Outcome) (w : WorldData) → (seen.tells old.base).writes ≡ false → old.effects ≡ []
     → Acts seen meaning old new (Ok outcome) → IsTree w.tree → Passes new.reads w → meaning w ≡ record { effects = new.effects; answer = outcome }
 done_first seen meaning old new outcome w writes none acts tree passes =
     let g = acts.does w (shown_first seen old new w writes none tree passes) in
@@ -84,7 +84,7 @@ effects_with m zero w has = absurd (has refl)
 effects_with m (suc n) w has = refl
 
 -- a halt of what the leaf did
-no_stop : {B : Type 0} (seen : B → SeenData) (meaning : WorldData → Done Outcome) (old new : Viewed B) (h : Halt) (w : WorldData) → (seen new.base).writes ≡ false → Acts seen meaning old new (Err h) → Showed seen old new w → is_stop h ≡ true → ⊥
+no_stop : {B : Type 0} (seen : Shows B) (meaning : WorldData → Done Outcome) (old new : Viewed B) (h : Halt) (w : WorldData) → (seen.tells new.base).writes ≡ false → Acts seen meaning old new (Err h) → Showed seen old new w → is_stop h ≡ true → ⊥
 no_stop seen meaning old new halt.NoMemory w writes acts s is = subst T (sym is) tt
 no_stop seen meaning old new halt.Fault w writes acts s is = subst T (sym is) tt
 no_stop seen meaning old new halt.Outside w writes acts s is = acts.outside refl
@@ -98,7 +98,7 @@ no_stop seen meaning old new (halt.Spent kind.Frames) w writes acts s is =
 no_stop seen meaning old new (halt.Spent kind.Bytes) w writes acts s is = subst T (sym is) tt
 no_stop seen meaning old new (halt.Spent kind.Tree) w writes acts s is = subst T (sym is) tt
 
-pub halts_acts : {B : Type 0} (seen : B → SeenData) (script : Script) (number : ℕ) (fuel : Fuel) (old new : Viewed B) (reads : ReadList) (effects : List Effect) (h i : Halt) → (seen old.base).writes ≡ false → old.effects ≡ [] → (fuel.turns ≡ 0 → ⊥)
+pub halts_acts : {B : Type 0} (seen : Shows B) (script : Script) (number : ℕ) (fuel : Fuel) (old new : Viewed B) (reads : ReadList) (effects : List Effect) (h i : Halt) → (seen.tells old.base).writes ≡ false → old.effects ≡ [] → (fuel.turns ≡ 0 → ⊥)
     → reads ≡ new.reads → effects ≡ new.effects → i ≡ h → Acts seen (leaf_done (slice_get script.leaves number)) old new (Err h) → Halts (leaf_in script number fuel) reads effects i
 halts_acts {B} seen script number fuel old new reads effects h i writes none has r e is acts =
     subst (λ (x : ReadList). Halts (leaf_in script number fuel) x effects i) (sym r)
@@ -125,7 +125,7 @@ halts_acts {B} seen script number fuel old new reads effects h i writes none has
     meaning : WorldData → Done Outcome
     meaning = leaf_done (slice_get script.leaves number)
 
-    later : (seen new.base).writes ≡ false
+    later : (seen.tells new.base).writes ≡ false
     later = acts.keeps.writes ∙ writes
 
     shown : (w : WorldData) → IsTree w.tree → Passes new.reads w → Showed seen old new w

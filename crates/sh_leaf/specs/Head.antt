@@ -5,8 +5,8 @@ use Rattle.hs_world.specs.declared.effect.Effect.{Effect}
 use Rattle.hs_world.specs.declared.reply.Request.{Request}
 use Rattle.hs_world.specs.declared.world.Limit.{Limit}
 use Rattle.hs_view.specs.Seen as seen
-use Rattle.hs_view.specs.Seen.{AskedData, SeenData, spent_of}
-use Rattle.hs_view.specs.Steps.{IsFront}
+use Rattle.hs_view.specs.Seen.{AskedData, SeenData, Shows, spent_of}
+use Rattle.hs_view.specs.Steps.{Half, IsFront}
 use Rattle.hs_view.specs.declared.halt.Halt.{Halt}
 use Rattle.hs_view.specs.declared.halt.Halt.TheVariants as halt
 use Rattle.hs_view.specs.declared.halt.SpentKind.{SpentKind}
@@ -51,15 +51,16 @@ pub record Asked (old new : SeenData) (gained : List AskedData) (requests : List
 
 -- ---- what comes of it
 
--- The leaf came to an outcome in this state: the told state has all of its effects, in order.
-pub record HeadDone (meaning : List Answer → Got Outcome) (turns : ℕ) (w : WorldData) (old new : SeenData) (r : HeadRecord) : Type 0 where
+-- The leaf came to an outcome in this state: the told state has all of its effects, in order, and so has the base.
+pub record HeadDone {B : Type 0} (seen : Shows B) (meaning : List Answer → Got Outcome) (turns : ℕ) (w : WorldData) (old new : B) (r : HeadRecord) : Type 0 where
   pub gained : List AskedData
   pub state : State
   pub is : meaning (answers_in gained) ≡ Gave r.outcome state
   pub effects : r.effects ≡ state.effects
   pub taken : r.turns + state.turns ≡ turns
-  pub asked : Asked old new gained state.requests
-  pub world : new.world ≡ Some (Applied r.effects w)
+  pub asked : Asked (seen.tells old) (seen.tells new) gained state.requests
+  pub world : (seen.tells new).world ≡ Some (Applied r.effects w)
+  pub base : seen.made r.effects old new
 
 -- Of the leaf's effects these come first, and the next one does not fit this state.
 pub record IsUnfit (meaning : Got Outcome) (effects : List Effect) (w : WorldData) (l : Limit) : Type 0 where
@@ -68,16 +69,18 @@ pub record IsUnfit (meaning : Got Outcome) (effects : List Effect) (w : WorldDat
   pub is : (state_of meaning).effects ≡ effects ++ next ∷ rest
   pub unfit : passed next w ≡ Some l
 
--- The leaf came to a halt in this state: the told state has its first effects, in order.
-pub record HeadHalts (meaning : List Answer → Got Outcome) (w : WorldData) (old new : SeenData) (effects : List Effect) (h : Halt) : Type 0 where
+-- The leaf came to a halt in this state: the told state has its first effects, in order, and so has the base, but that the last one may
+-- have failed on the way.
+pub record HeadHalts {B : Type 0} (seen : Shows B) (meaning : List Answer → Got Outcome) (w : WorldData) (old new : B) (effects : List Effect) (h : Halt) : Type 0 where
   pub gained : List AskedData
-  pub asked : Asked old new gained (state_of (meaning (answers_in gained))).requests
+  pub asked : Asked (seen.tells old) (seen.tells new) gained (state_of (meaning (answers_in gained))).requests
   pub made : List Effect
   pub made_front : IsFront made (state_of (meaning (answers_in gained))).effects
-  pub world : new.world ≡ Some (Applied made w)
+  pub world : (seen.tells new).world ≡ Some (Applied made w)
+  pub base : Half seen made old new
   pub front : IsFront effects (state_of (meaning (answers_in gained))).effects
   -- The leaf itself stops, and all that it did is made.
   pub stops : is_stop h ≡ true → StopsSo (meaning (answers_in gained)) effects h × (made ≡ effects)
-  -- Where a limit is passed, the told state has exactly the effects that are handed back.
-  pub full : (k : SpentKind) → h ≡ halt.Spent k → new.world ≡ Some (Applied effects w)
+  -- Where a limit is passed, the told state and the base have exactly the effects that are handed back.
+  pub full : (k : SpentKind) → h ≡ halt.Spent k → ((seen.tells new).world ≡ Some (Applied effects w)) × seen.made effects old new
   pub unfit : (l : Limit) → h ≡ halt.Spent (spent_of l) → IsUnfit (meaning (answers_in gained)) effects (Applied effects w) l

@@ -51,11 +51,11 @@ pub fn do_head_leaf<B: Base>(
     fuel: Fuel,
     base: B,
 ) -> Result<(B, HeadRecord), (B, Halt, Trace)>
-    requires writes { (B.seen base).writes ≡ true }
-    ensures done { IfOk result (λ r. (w : WorldData) → (B.seen base).world ≡ Some w → HeadDone (leaf_under (arc_value script.now) number fuel w) fuel.turns w (B.seen base) (B.seen r.0) r.1) }
-    ensures halts { IfErr result (λ r. (w : WorldData) → (B.seen base).world ≡ Some w → HeadHalts (leaf_under (arc_value script.now) number fuel w) w (B.seen base) (B.seen r.0) r.2.effects r.1) }
+    requires writes { (B.seen.tells base).writes ≡ true }
+    ensures done { IfOk result (λ r. (w : WorldData) → (B.seen.tells base).world ≡ Some w → HeadDone B.seen (leaf_under (arc_value script.now) number fuel w) fuel.turns w base r.0 r.1) }
+    ensures halts { IfErr result (λ r. (w : WorldData) → (B.seen.tells base).world ≡ Some w → HeadHalts B.seen (leaf_under (arc_value script.now) number fuel w) w base r.0 r.2.effects r.1) }
     ensures trace { IfErr result (λ r. r.1 ≢ Halt.Trace) }
-    ensures fault { IfErr result (λ r. r.1 ≡ Halt.Fault → Rose (B.seen base).faults (B.seen r.0).faults) }
+    ensures fault { IfErr result (λ r. r.1 ≡ Halt.Fault → Rose (B.seen.tells base).faults (B.seen.tells r.0).faults) }
 {
     let mut view = View::new(alloc, base, fuel.trace);
     if fuel.turns == 0 {

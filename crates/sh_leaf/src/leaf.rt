@@ -37,7 +37,7 @@ fn recorded<B: Base>(
     outcome: Outcome,
     view: View<B>,
 ) -> (B, Record)
-    requires writes { (B.seen view.base).writes ≡ false }
+    requires writes { (B.seen.tells view.base).writes ≡ false }
     requires done { (w : WorldData) → IsTree w.tree → Passes view.reads w → leaf_done (slice_get (arc_value script).leaves number) w ≡ record { effects = view.effects; answer = outcome } }
     ensures base { result.0 ≡ view.base }
     ensures script { result.1.script ≡ arc_value script }
@@ -67,15 +67,15 @@ pub fn do_leaf<B: Base>(
     fuel: Fuel,
     base: B,
 ) -> Result<(B, Record), (B, Halt, Trace)>
-    requires writes { (B.seen base).writes ≡ false }
+    requires writes { (B.seen.tells base).writes ≡ false }
     ensures script { IfOk result (λ r. r.1.script ≡ arc_value script.now) }
     ensures number { IfOk result (λ r. r.1.number ≡ number) }
-    ensures told { IfOk result (λ r. (w : WorldData) → (B.seen base).world ≡ Some w → ((B.seen r.0).world ≡ Some w) × Passes r.1.reads w) }
+    ensures told { IfOk result (λ r. (w : WorldData) → (B.seen.tells base).world ≡ Some w → ((B.seen.tells r.0).world ≡ Some w) × Passes r.1.reads w) }
     ensures turns { IfOk result (λ r. r.1.turns ≤ fuel.turns) }
-    ensures told_halted { IfErr result (λ r. (w : WorldData) → (B.seen base).world ≡ Some w → ((B.seen r.0).world ≡ Some w) × Passes r.2.reads w) }
+    ensures told_halted { IfErr result (λ r. (w : WorldData) → (B.seen.tells base).world ≡ Some w → ((B.seen.tells r.0).world ≡ Some w) × Passes r.2.reads w) }
     ensures halts { IfErr result (λ r. Halts (leaf_in (arc_value script.now) number fuel) r.2.reads r.2.effects r.1) }
     ensures trace { IfErr result (λ r. r.1 ≡ Halt.Trace → fuel.trace < trace_size r.2.reads r.2.effects) }
-    ensures fault { IfErr result (λ r. r.1 ≡ Halt.Fault → Rose (B.seen base).faults (B.seen r.0).faults) }
+    ensures fault { IfErr result (λ r. r.1 ≡ Halt.Fault → Rose (B.seen.tells base).faults (B.seen.tells r.0).faults) }
 {
     let mut view = View::new(alloc, base, fuel.trace);
     if fuel.turns == 0 {

@@ -10,7 +10,7 @@ use Rattle.hs_world.specs.declared.entry.Entry.{Entry}
 use Rattle.hs_world.specs.declared.entry.Entry.TheVariants.{File, Dir, Other}
 use Rattle.hs_world.specs.declared.entry.Kind.TheVariants as kind
 use Rattle.hs_view.specs.Acts.{Acts, then_by, answering, only}
-use Rattle.hs_view.specs.Seen.{SeenData}
+use Rattle.hs_view.specs.Seen.{Shows}
 use Rattle.hs_view.specs.Steps.{Done, nothing}
 use Rattle.hs_view.specs.View.{Viewed}
 use Rattle.hs_view.specs.declared.halt.Halt.{Halt}
@@ -63,7 +63,7 @@ same_halt : {A C : Type 0} (h i : Halt) → ◌≡◌ {A = Result C Halt} (Err h
 same_halt h i e = let x : h ≡ i = cc in ap Err x
 
 -- one effect, and the status that goes with it
-pub filtered_emit : {B : Type 0} (stands : List (List ℕ) → Type 0) (seen : B → SeenData) (e : Effect) (contents : List (List ℕ)) (status : ℕ) (a b : Viewed B) (r : Result ℕ Halt)
+pub filtered_emit : {B : Type 0} (stands : List (List ℕ) → Type 0) (seen : Shows B) (e : Effect) (contents : List (List ℕ)) (status : ℕ) (a b : Viewed B) (r : Result ℕ Halt)
     → stands contents → Acts seen (only e status) a b r → Filtered stands seen (only e (progress_of contents status)) a b r
 filtered_emit stands seen e contents status a b (Ok x) s t = record {
   progress = Ok (progress_of contents x);
@@ -79,7 +79,7 @@ filtered_emit stands seen e contents status a b (Err h) s t = record {
 }
 
 -- behind a first part
-pub filtered_then : {B A : Type 0} (stands : List (List ℕ) → Type 0) (seen : B → SeenData) (one : WorldData → Done A) (rest : A → WorldData → Done Progress) (a b c : Viewed B) (x : A) (r : Result ℕ Halt)
+pub filtered_then : {B A : Type 0} (stands : List (List ℕ) → Type 0) (seen : Shows B) (one : WorldData → Done A) (rest : A → WorldData → Done Progress) (a b c : Viewed B) (x : A) (r : Result ℕ Halt)
     → Acts seen one a b (Ok x) → Filtered stands seen (rest x) b c r → Filtered stands seen (λ w. then_by (one w) rest w) a c r
 filtered_then stands seen one rest a b c x r s f = record { progress = f.progress; is = f.is; acts = acts_then seen one rest a b c x f.progress s f.acts; behind = f.behind }
 
@@ -88,39 +88,39 @@ halt_on (Err i) h a b = ap Err b
 halt_on (Ok x) h a b = absurd b
 
 -- a halt
-pub filtered_on : {B : Type 0} (stands : List (List ℕ) → Type 0) (seen : B → SeenData) (meaning : WorldData → Done Progress) (a b : Viewed B) (h : Halt) (r : Result ℕ Halt)
+pub filtered_on : {B : Type 0} (stands : List (List ℕ) → Type 0) (seen : Shows B) (meaning : WorldData → Done Progress) (a b : Viewed B) (h : Halt) (r : Result ℕ Halt)
     → IsErr r → IsErrAnd r (λ i. i ≡ h) → Acts seen meaning a b (Err h) → Filtered stands seen meaning a b r
 filtered_on stands seen meaning a b h r e i t = record { progress = Err h; is = halt_on r h e i; acts = t; behind = tt }
 
 -- the same for each state
-pub filtered_as : {B : Type 0} (stands : List (List ℕ) → Type 0) (seen : B → SeenData) (m n : WorldData → Done Progress) (a b : Viewed B) (r : Result ℕ Halt) → m ≡ n → Filtered stands seen m a b r → Filtered stands seen n a b r
+pub filtered_as : {B : Type 0} (stands : List (List ℕ) → Type 0) (seen : Shows B) (m n : WorldData → Done Progress) (a b : Viewed B) (r : Result ℕ Halt) → m ≡ n → Filtered stands seen m a b r → Filtered stands seen n a b r
 filtered_as stands seen m n a b r e f = subst (λ (x : WorldData → Done Progress). Filtered stands seen x a b r) e f
 
 -- ---- what was filtered
 
-answer_of : {B : Type 0} (stands : List (List ℕ) → Type 0) (seen : B → SeenData) (meaning : WorldData → Done Progress) (a b : Viewed B) (x : ℕ) (p : Result Progress Halt) → ◌≡◌ {A = Result ℕ Halt} (Ok x) (status_in p)
+answer_of : {B : Type 0} (stands : List (List ℕ) → Type 0) (seen : Shows B) (meaning : WorldData → Done Progress) (a b : Viewed B) (x : ℕ) (p : Result Progress Halt) → ◌≡◌ {A = Result ℕ Halt} (Ok x) (status_in p)
     → Acts seen meaning a b p → IfOk p (λ q. stands q.contents) → (contents : List (List ℕ)) × stands contents × Acts seen meaning a b (Ok (progress_of contents x))
 answer_of stands seen meaning a b x (Ok p) e t s =
     let same : p.status ≡ x = cc in
     (p.contents, s, subst (λ (n : ℕ). Acts seen meaning a b (Ok (progress_of p.contents n))) same t)
 answer_of stands seen meaning a b x (Err h) e t s = absurd (ok_err x h e)
 
-pub filtered_ok : {B : Type 0} (stands : List (List ℕ) → Type 0) (seen : B → SeenData) (meaning : WorldData → Done Progress) (a b : Viewed B) (x : ℕ) → Filtered stands seen meaning a b (Ok x)
+pub filtered_ok : {B : Type 0} (stands : List (List ℕ) → Type 0) (seen : Shows B) (meaning : WorldData → Done Progress) (a b : Viewed B) (x : ℕ) → Filtered stands seen meaning a b (Ok x)
     → (contents : List (List ℕ)) × stands contents × Acts seen meaning a b (Ok (progress_of contents x))
 filtered_ok stands seen meaning a b x f = answer_of stands seen meaning a b x f.progress f.is f.acts f.behind
 
 err_ok : {A : Type 0} (x : A) (h : Halt) → ◌≡◌ {A = Result A Halt} (Err h) (Ok x) → ⊥
 err_ok x h e = cc
 
-halt_of : {B : Type 0} (seen : B → SeenData) (meaning : WorldData → Done Progress) (a b : Viewed B) (h : Halt) (p : Result Progress Halt) → ◌≡◌ {A = Result ℕ Halt} (Err h) (status_in p) → Acts seen meaning a b p → Acts seen meaning a b (Err h)
+halt_of : {B : Type 0} (seen : Shows B) (meaning : WorldData → Done Progress) (a b : Viewed B) (h : Halt) (p : Result Progress Halt) → ◌≡◌ {A = Result ℕ Halt} (Err h) (status_in p) → Acts seen meaning a b p → Acts seen meaning a b (Err h)
 halt_of seen meaning a b h (Ok p) e t = absurd (err_ok p.status h e)
 halt_of {B} seen meaning a b h (Err i) e t = let same : i ≡ h = cc in subst (λ (j : Halt). Acts {A = Progress} seen meaning a b (Err j)) same t
 
-pub filtered_err : {B : Type 0} (stands : List (List ℕ) → Type 0) (seen : B → SeenData) (meaning : WorldData → Done Progress) (a b : Viewed B) (h : Halt) → Filtered stands seen meaning a b (Err h) → Acts seen meaning a b (Err h)
+pub filtered_err : {B : Type 0} (stands : List (List ℕ) → Type 0) (seen : Shows B) (meaning : WorldData → Done Progress) (a b : Viewed B) (h : Halt) → Filtered stands seen meaning a b (Err h) → Acts seen meaning a b (Err h)
 filtered_err stands seen meaning a b h f = halt_of seen meaning a b h f.progress f.is f.acts
 
 -- the status alone
-pub filtered_status : {B : Type 0} (stands : List (List ℕ) → Type 0) (seen : B → SeenData) (meaning : WorldData → Done Progress) (a b : Viewed B) (r : Result ℕ Halt) → Filtered stands seen meaning a b r
+pub filtered_status : {B : Type 0} (stands : List (List ℕ) → Type 0) (seen : Shows B) (meaning : WorldData → Done Progress) (a b : Viewed B) (r : Result ℕ Halt) → Filtered stands seen meaning a b r
     → Acts seen (λ w. answering status_of (meaning w)) a b r
 filtered_status stands seen meaning a b (Ok x) f =
     let t = filtered_ok stands seen meaning a b x f in

@@ -9,7 +9,7 @@ use Rattle.hs_world.specs.declared.effect.Fd.TheVariants.{One, Two}
 use Rattle.hs_world.specs.declared.entry.Entry.{Entry}
 use Rattle.hs_world.specs.declared.entry.Entry.TheVariants.{File, Dir, Other}
 use Rattle.hs_view.specs.Acts.{Acts, answering, then_by, only}
-use Rattle.hs_view.specs.Seen.{SeenData}
+use Rattle.hs_view.specs.Seen.{Shows}
 use Rattle.hs_view.specs.Steps.{Done, nothing}
 use Rattle.hs_view.specs.View.{Viewed}
 use Rattle.hs_view.specs.declared.halt.Halt.{Halt}
@@ -109,7 +109,7 @@ status_in (Ok p) = Ok p.status
 status_in (Err h) = Err h
 
 -- The meaning was done, and the filter stands behind the contents that were read.
-pub record Filtered {B : Type 0} (stands : List (List ℕ) → Type 0) (seen : B → SeenData) (meaning : WorldData → Done Progress) (old new : Viewed B) (result : Result ℕ Halt) : Type 0 where
+pub record Filtered {B : Type 0} (stands : List (List ℕ) → Type 0) (seen : Shows B) (meaning : WorldData → Done Progress) (old new : Viewed B) (result : Result ℕ Halt) : Type 0 where
   pub progress : Result Progress Halt
   pub is : result ≡ status_in progress
   pub acts : Acts seen meaning old new progress

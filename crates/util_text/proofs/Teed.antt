@@ -9,7 +9,7 @@ use Rattle.hs_world.specs.declared.entry.Entry.{Entry}
 use Rattle.hs_world.specs.declared.entry.Entry.TheVariants.{File, Dir, Other}
 use Rattle.hs_world.specs.declared.entry.Kind.{Kind}
 use Rattle.hs_world.specs.declared.entry.Kind.TheVariants as kind
-use Rattle.hs_view.specs.Seen.{SeenData}
+use Rattle.hs_view.specs.Seen.{Shows}
 use Rattle.hs_view.specs.View.{Viewed, Keeps, Showed}
 use Rattle.hs_view.proofs.Keeping.{showed_back, showed_earlier}
 use Rattle.util_text.specs.Teeing.{is_folder, is_free}
@@ -59,11 +59,11 @@ put_valid path text u h i = all_three (is_dir (entry_at u.tree (parent path))) (
 -- ---- what was shown
 
 -- what a read told is so in each state that the view shows then
-pub told_now : {B A H : Type 0} (seen : B → SeenData) (a b : Viewed B) (x : A) (P : WorldData → Type 0) → Keeps {H = H} seen a b (Ok x) → b.effects ≡ a.effects → ((u : WorldData) → Showed seen a b u → P u) → (u : WorldData) → Showed seen b b u → P u
+pub told_now : {B A H : Type 0} (seen : Shows B) (a b : Viewed B) (x : A) (P : WorldData → Type 0) → Keeps {H = H} seen a b (Ok x) → b.effects ≡ a.effects → ((u : WorldData) → Showed seen a b u → P u) → (u : WorldData) → Showed seen b b u → P u
 told_now {H} seen a b x P k e f u s =
     let (v, shown, same) = showed_back {H = H} seen a b b x [] u k (e ∙ sym (append-nil a.effects)) s in
     subst P (sym same) (f v shown)
 
 -- what was so before a read is so then
-pub kept_now : {B A H : Type 0} (seen : B → SeenData) (a b : Viewed B) (x : A) (P : WorldData → Type 0) → Keeps {H = H} seen a b (Ok x) → b.effects ≡ a.effects → ((u : WorldData) → Showed seen a a u → P u) → (u : WorldData) → Showed seen b b u → P u
+pub kept_now : {B A H : Type 0} (seen : Shows B) (a b : Viewed B) (x : A) (P : WorldData → Type 0) → Keeps {H = H} seen a b (Ok x) → b.effects ≡ a.effects → ((u : WorldData) → Showed seen a a u → P u) → (u : WorldData) → Showed seen b b u → P u
 kept_now {A} {H} seen a b x P k e f = told_now {H = H} seen a b x P k e (λ u s. f u (showed_earlier {A = A} {H = H} seen a a b (Ok x) u k s))

@@ -7,7 +7,7 @@ ghost use Rattle.hs_view.specs.Causes.{Rose};
 ghost use Rattle.hs_view.specs.Known.{tables_of};
 ghost use Rattle.hs_view.specs.Pushes.{has_push, is_own_pop, standing};
 ghost use Rattle.hs_view.specs.Puts.{HaltsWhere, Puts, done_by};
-ghost use Rattle.hs_view.specs.Seen.{IsLeft, spent_of};
+ghost use Rattle.hs_view.specs.Seen.{IsLeft, Still, spent_of};
 ghost use Rattle.hs_view.specs.Size.{capped, effect_size, trace_size};
 ghost use Rattle.hs_view.specs.View.{Keeps, Showed};
 ghost use Rattle.hs_world.specs.World.{WorldData, is_valid, passed};
@@ -25,7 +25,7 @@ impl<B: Base> View<B> {
     /// A view that goes on with what `into_trace` gave, which is within `trace` bytes where the base does not write. It takes
     /// no memory.
     pub fn resume(base: B, so_far: Trace, trace: u64) -> View<B>
-        requires written { so_far.written ≡ (B.seen base).writes }
+        requires written { so_far.written ≡ (B.seen.tells base).writes }
         requires within { so_far.written ≡ false → trace_size so_far.reads so_far.effects ≤ trace }
         ensures base { result.base ≡ base }
         ensures reads { result.reads ≡ so_far.reads }
@@ -73,19 +73,19 @@ impl<B: Base> View<B> {
     /// Nothing is read: what goes to a descriptor of the base whose end was not read is measured by itself, whatever file
     /// that end is. Trace comes where the limit is passed: then the effect stands last, and the view is only taken apart.
     pub fn put(&mut self, effect: Effect) -> Result<(), Halt>
-        requires valid { is_own_pop effect (B.seen self.old.base).writes ≡ false → (u : WorldData) → Showed B.seen self.old self.old u → is_valid effect u ≡ true }
-        requires pushed { (B.seen self.old.base).writes ≡ false → has_push effect self.old.effects ≡ true }
+        requires valid { is_own_pop effect (B.seen.tells self.old.base).writes ≡ false → (u : WorldData) → Showed B.seen self.old self.old u → is_valid effect u ≡ true }
+        requires pushed { (B.seen.tells self.old.base).writes ≡ false → has_push effect self.old.effects ≡ true }
         ensures reads { self.new.reads ≡ self.old.reads }
         ensures effects { self.new.effects ≡ done_by result self.old.effects effect }
         ensures keeps { Keeps B.seen self.old self.new result }
-        ensures left { (B.seen self.old.base).writes ≡ true → OnErr result (IsLeft effect (B.seen self.old.base).world (B.seen self.new.base).world) }
-        ensures full { (k : SpentKind) → result ≡ Err (Halt.Spent k) → (B.seen self.new.base).world ≡ (B.seen self.old.base).world }
-        ensures fault { result ≡ Err Halt.Fault → Rose (B.seen self.old.base).faults (B.seen self.new.base).faults }
-        ensures trace { (B.seen self.old.base).writes ≡ false → trace_size self.old.reads self.old.effects ≤ self.old.trace → (result ≡ Err Halt.Trace ↔ self.new.trace < trace_size self.new.reads self.new.effects) }
-        ensures through { (B.seen self.old.base).writes ≡ true → result ≢ Err Halt.Trace }
-        ensures spent { (B.seen self.old.base).writes ≡ true → (l : Limit) → IfSome (B.seen self.old.base).world (λ w. HaltsWhere (Halt.Spent (spent_of l)) (passed effect w ≡ Some l) result) }
-        ensures long { (B.seen self.old.base).writes ≡ false → HaltsWhere (Halt.Spent SpentKind.Bytes) (over_passes effect (tables_of B.seen self.old) ≡ true) result }
-        ensures tree { (B.seen self.old.base).writes ≡ false → result ≢ Err (Halt.Spent SpentKind.Tree) }
+        ensures left { (B.seen.tells self.old.base).writes ≡ true → OnErr result (IsLeft B.seen effect self.old.base self.new.base) }
+        ensures full { (k : SpentKind) → result ≡ Err (Halt.Spent k) → Still B.seen self.old.base self.new.base }
+        ensures fault { result ≡ Err Halt.Fault → Rose (B.seen.tells self.old.base).faults (B.seen.tells self.new.base).faults }
+        ensures trace { (B.seen.tells self.old.base).writes ≡ false → trace_size self.old.reads self.old.effects ≤ self.old.trace → (result ≡ Err Halt.Trace ↔ self.new.trace < trace_size self.new.reads self.new.effects) }
+        ensures through { (B.seen.tells self.old.base).writes ≡ true → result ≢ Err Halt.Trace }
+        ensures spent { (B.seen.tells self.old.base).writes ≡ true → (l : Limit) → IfSome (B.seen.tells self.old.base).world (λ w. HaltsWhere (Halt.Spent (spent_of l)) (passed effect w ≡ Some l) result) }
+        ensures long { (B.seen.tells self.old.base).writes ≡ false → HaltsWhere (Halt.Spent SpentKind.Bytes) (over_passes effect (tables_of B.seen self.old) ≡ true) result }
+        ensures tree { (B.seen.tells self.old.base).writes ≡ false → result ≢ Err (Halt.Spent SpentKind.Tree) }
         ensures turns { result ≢ Err (Halt.Spent SpentKind.Turns) }
         ensures frames { result ≢ Err (Halt.Spent SpentKind.Frames) }
         ensures outside { result ≢ Err Halt.Outside }
@@ -98,7 +98,7 @@ impl<B: Base> View<B> {
 
     /// Does an effect in the state of a base that writes.
     fn put_now(&mut self, effect: Effect) -> Result<(), Halt>
-        requires writes { (B.seen self.old.base).writes ≡ true }
+        requires writes { (B.seen.tells self.old.base).writes ≡ true }
         requires valid { (u : WorldData) → Showed B.seen self.old self.old u → is_valid effect u ≡ true }
         ensures { Puts B.seen self.old self.new effect result }
     {
@@ -107,8 +107,8 @@ impl<B: Base> View<B> {
 
     /// Records an effect that the base does not have.
     fn put_later(&mut self, effect: Effect) -> Result<(), Halt>
-        requires writes { (B.seen self.old.base).writes ≡ false }
-        requires valid { is_own_pop effect (B.seen self.old.base).writes ≡ false → (u : WorldData) → Showed B.seen self.old self.old u → is_valid effect u ≡ true }
+        requires writes { (B.seen.tells self.old.base).writes ≡ false }
+        requires valid { is_own_pop effect (B.seen.tells self.old.base).writes ≡ false → (u : WorldData) → Showed B.seen self.old self.old u → is_valid effect u ≡ true }
         requires pushed { has_push effect self.old.effects ≡ true }
         ensures { Puts B.seen self.old self.new effect result }
     {
@@ -123,7 +123,7 @@ impl<B: Base> View<B> {
 
     /// Records an effect over the tables of those before it.
     fn put_over(&mut self, overlay: Overlay, effect: Effect) -> Result<(), Halt>
-        requires writes { (B.seen self.old.base).writes ≡ false }
+        requires writes { (B.seen.tells self.old.base).writes ≡ false }
         requires valid { (u : WorldData) → Showed B.seen self.old self.old u → is_valid effect u ≡ true }
         requires pushed { has_push effect self.old.effects ≡ true }
         requires tables { overlay ≡ tables_of B.seen self.old }
@@ -139,7 +139,7 @@ impl<B: Base> View<B> {
 
     /// Records an effect that is not too long.
     fn put_short(&mut self, overlay: Overlay, effect: Effect) -> Result<(), Halt>
-        requires writes { (B.seen self.old.base).writes ≡ false }
+        requires writes { (B.seen.tells self.old.base).writes ≡ false }
         requires valid { (u : WorldData) → Showed B.seen self.old self.old u → is_valid effect u ≡ true }
         requires pushed { has_push effect self.old.effects ≡ true }
         requires tables { overlay ≡ tables_of B.seen self.old }
@@ -156,7 +156,7 @@ impl<B: Base> View<B> {
 
     /// Records an effect, with the tables after it.
     fn record(&mut self, overlay: Overlay, effect: Effect) -> Result<(), Halt>
-        requires writes { (B.seen self.old.base).writes ≡ false }
+        requires writes { (B.seen.tells self.old.base).writes ≡ false }
         requires valid { (u : WorldData) → Showed B.seen self.old self.old u → is_valid effect u ≡ true }
         requires pushed { has_push effect self.old.effects ≡ true }
         requires tables { overlay ≡ over_step effect (tables_of B.seen self.old) }

@@ -1,6 +1,7 @@
 //! Leaves in their turn, over a state that has each effect at once.
 
 ghost use Rattle.std.specs.Prelude.{None, [], true, false};
+ghost use Rattle.hs_view.specs.Seen.{alone};
 
 use super::{Step, are_steps, script, world};
 use crate::{Fuel, HeadRecord, Outcome, do_head_leaf};
@@ -19,7 +20,7 @@ struct Written {
 }
 
 impl Base for Written {
-    ghost seen = { λ b. record { world = None; asked = []; writes = true; runs = false; faults = 0 } };
+    ghost seen = { alone (λ b. record { world = None; asked = []; writes = true; runs = false; faults = 0 }) };
 
     fn writes(&self) -> bool {
         true

@@ -9,7 +9,7 @@ returns-then-is_err-clause-written g c =
     let k : length c.as_slice.result.now - 1 ≡ length c.args.effects.now = omega (arith, n) in
     let e = last_is c.args.effects.now _ c.args.effect c.index-as_slice-last.result _ (c.as_slice-2.ensures ∙ c.in_ok-push.ensures.ok) k c.index-as_slice-last.is in
     let p = c.push-pushed.ensures in
-    written-by c.args.effect c.index-as_slice-last.result _ _ _ e c.requires.writes p.ok p.err p.full p.asked p.writes p.runs p.later p.fault p.spent p.turns p.frames p.trace p.outside
+    written-by g.B.Base.seen c.args.effect c.index-as_slice-last.result _ _ _ e c.requires.writes p.ok p.made p.err p.full p.asked p.writes p.runs p.later p.fault p.spent p.turns p.frames p.trace p.outside
 
 pub returns-else-is_err-clause-written : goal.returns-else-is_err-clause-written
 returns-else-is_err-clause-written g c =
@@ -17,4 +17,4 @@ returns-else-is_err-clause-written g c =
     let k : length c.as_slice.result.now - 1 ≡ length c.args.effects.now = omega (arith, n) in
     let e = last_is c.args.effects.now _ c.args.effect c.index-as_slice-last.result _ (c.as_slice-2.ensures ∙ c.in_ok-push.ensures.ok) k c.index-as_slice-last.is in
     let p = c.push-pushed.ensures in
-    written-by c.args.effect c.index-as_slice-last.result _ _ _ e c.requires.writes p.ok p.err p.full p.asked p.writes p.runs p.later p.fault p.spent p.turns p.frames p.trace p.outside
+    written-by g.B.Base.seen c.args.effect c.index-as_slice-last.result _ _ _ e c.requires.writes p.ok p.made p.err p.full p.asked p.writes p.runs p.later p.fault p.spent p.turns p.frames p.trace p.outside

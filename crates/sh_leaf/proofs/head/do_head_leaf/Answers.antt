@@ -19,8 +19,8 @@ returns-in-Ok-clause-done g c = λ w t.
     done_as g.B.Base.seen (leaf_under (arc_value c.args.script.now) c.args.number c.args.fuel w) c.args.fuel.turns w _ c.new-view.result.base _ c.run_command.new.view.base _ _ (sym c.new-view.ensures.base)
     c.ended.ensures.base c.ended.ensures.left
     (head_done g.B.Base.seen (arc_value c.args.script.now) c.args.number c.args.fuel c.new-view.result c.run_command.new.view c.in-Ok.outcome w
-    (ap (λ (b : g.row.B.Denot). (g.B.Base.seen b).writes) c.new-view.ensures.base ∙ c.requires.writes) c.new-view.ensures.effects c.if-fuel-eq0.false
-    (ap (λ (b : g.row.B.Denot). (g.B.Base.seen b).world) c.new-view.ensures.base ∙ t)
+    (ap (λ (b : g.row.B.Denot). (g.B.Base.seen.tells b).writes) c.new-view.ensures.base ∙ c.requires.writes) c.new-view.ensures.effects c.if-fuel-eq0.false
+    (ap (λ (b : g.row.B.Denot). (g.B.Base.seen.tells b).world) c.new-view.ensures.base ∙ t)
     (subst (λ (s : Script). Acts g.B.Base.seen (leaf_done (slice_get s.leaves c.args.number)) c.new-view.result c.run_command.new.view (Ok c.in-Ok.outcome)) c.deref.ensures c.in-Ok.ensures))
 
 pub returns-in-Err-clause-halts : goal.returns-in-Err-clause-halts
@@ -28,6 +28,6 @@ returns-in-Err-clause-halts g c = λ w t.
     halts_as g.B.Base.seen (leaf_under (arc_value c.args.script.now) c.args.number c.args.fuel w) w _ c.new-view.result.base _ c.run_command.new.view.base _ _ _ c.in-Err.halt (sym c.new-view.ensures.base)
     c.halted-in-Err.ensures.base c.halted-in-Err.ensures.effects c.halted-in-Err.ensures.halt
     (head_halts g.B.Base.seen (arc_value c.args.script.now) c.args.number c.args.fuel c.new-view.result c.run_command.new.view c.in-Err.halt w
-    (ap (λ (b : g.row.B.Denot). (g.B.Base.seen b).writes) c.new-view.ensures.base ∙ c.requires.writes) c.new-view.ensures.effects c.if-fuel-eq0.false
-    (ap (λ (b : g.row.B.Denot). (g.B.Base.seen b).world) c.new-view.ensures.base ∙ t)
+    (ap (λ (b : g.row.B.Denot). (g.B.Base.seen.tells b).writes) c.new-view.ensures.base ∙ c.requires.writes) c.new-view.ensures.effects c.if-fuel-eq0.false
+    (ap (λ (b : g.row.B.Denot). (g.B.Base.seen.tells b).world) c.new-view.ensures.base ∙ t)
     (subst (λ (s : Script). Acts g.B.Base.seen (leaf_done (slice_get s.leaves c.args.number)) c.new-view.result c.run_command.new.view (Err c.in-Err.halt)) c.deref.ensures c.in-Err.ensures))

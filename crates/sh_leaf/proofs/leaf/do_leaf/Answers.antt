@@ -18,7 +18,7 @@ returns-in_default-clause-halts g c =
 
 pub returns-in-Err-clause-halts : goal.returns-in-Err-clause-halts
 returns-in-Err-clause-halts g c =
-    halts_acts g.B.Base.seen (arc_value c.args.script.now) c.args.number c.args.fuel c.new-view.result c.run_command.new.view _ _ c.in-Err.halt _ (ap (λ (b : g.row.B.Denot). (g.B.Base.seen b).writes) c.new-view.ensures.base ∙ c.requires.writes) c.new-view.ensures.effects c.if-fuel-eq0.false
+    halts_acts g.B.Base.seen (arc_value c.args.script.now) c.args.number c.args.fuel c.new-view.result c.run_command.new.view _ _ c.in-Err.halt _ (ap (λ (b : g.row.B.Denot). (g.B.Base.seen.tells b).writes) c.new-view.ensures.base ∙ c.requires.writes) c.new-view.ensures.effects c.if-fuel-eq0.false
     c.halted-in-Err.ensures.reads c.halted-in-Err.ensures.effects c.halted-in-Err.ensures.halt
     (subst (λ (s : Script). Acts g.B.Base.seen (leaf_done (slice_get s.leaves c.args.number)) c.new-view.result c.run_command.new.view (Err c.in-Err.halt)) c.deref.ensures c.in-Err.ensures)
 
@@ -27,5 +27,5 @@ recorded-requires-clause-done g c = λ w t p.
     let same : arc_value c.in-Ok.kept ≡ arc_value c.args.script.now = grind arith in
     ap (λ (s : Script). leaf_done (slice_get s.leaves c.args.number) w) same
     ∙ done_first g.B.Base.seen (leaf_done (slice_get (arc_value c.args.script.now).leaves c.args.number)) c.new-view.result c.run_command.new.view c.in-Ok-run_command.outcome w
-    (ap (λ (b : g.row.B.Denot). (g.B.Base.seen b).writes) c.new-view.ensures.base ∙ c.requires.writes) c.new-view.ensures.effects
+    (ap (λ (b : g.row.B.Denot). (g.B.Base.seen.tells b).writes) c.new-view.ensures.base ∙ c.requires.writes) c.new-view.ensures.effects
     (subst (λ (s : Script). Acts g.B.Base.seen (leaf_done (slice_get s.leaves c.args.number)) c.new-view.result c.run_command.new.view (Ok c.in-Ok-run_command.outcome)) c.deref.ensures c.in-Ok-run_command.ensures) t p

@@ -7,7 +7,7 @@ use Rattle.hs_world.specs.declared.effect.Effect.TheVariants.{Put}
 use Rattle.hs_world.specs.declared.effect.Fd.TheVariants.{Two}
 use Rattle.hs_view.specs.Acts.{only}
 use Rattle.hs_view.specs.declared.halt.Halt.{Halt}
-use Rattle.hs_view.proofs.Acting.{acts_on, acts_read_then, acts_unread}
+use Rattle.hs_view.proofs.Acting.{acts_memory_on, acts_on, acts_read_then, acts_unread}
 use Rattle.util_common.specs.Messages.{message_on}
 use Rattle.util_common.specs.Operands.{emitted}
 use Rattle.util_common.specs.declared.messages.Why.TheVariants.{NoSuchFolder}
@@ -62,3 +62,6 @@ returns g c =
     (λ u s.
     ap (λ (d : Bool). told c.args.word.now c.args.status (made_in d path text) u)
     (sym (folder_told path c.in_ok-folder.folder c.pop.new.self c.in_ok-kind.kind c.is_folder.result false u c.pop.ensures folder (e.answer u s) c.is_folder.ensures c.if-is_folder.false))) c.write_message.ensures
+
+pub returns-in_err-folder : goal.returns-in_err-folder
+returns-in_err-folder g c = acts_memory_on g.B.Base.seen _ c.args.view.now _ c.from_residual.ensures.0 c.from_residual.ensures.1

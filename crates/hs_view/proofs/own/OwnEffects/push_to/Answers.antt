@@ -22,4 +22,4 @@ invariant_of-self-2 g c =
     counted-more c.self.inside.effects c.args.effect _ _ _ _ c.of-mark.ensures c.self.invariant c.make_room.ensures.same c.step.ensures ∙ ap standing (sym c.in_ok-push_both.ensures.ok)
 
 pub returns-then-is_err-clause-written : goal.returns-then-is_err-clause-written
-returns-then-is_err-clause-written g c = written-none _ _
+returns-then-is_err-clause-written g c = written-none _ _ _

@@ -12,7 +12,7 @@ use Rattle.hs_view.proofs.view.View.fetch_once.Goals as goal
 pub returns-in-Some-clause-answer : goal.returns-in-Some-clause-answer
 returns-in-Some-clause-answer g c = λ b t.
     read_passes c.args.self.now.reads c.args.loc.now c.in-Some.value.now b (subst (λ (rs : ReadList). IsRead rs c.args.loc.now c.in-Some.value.now) (ap (λ v. v.reads) c.self.view_is) c.in-Some.ensures)
-    (stands_passes (g.B.Base.seen c.args.self.now.base) _ b c.requires.writes t) ∙ sym (value_copied _ _ c.in_ok-clone.ensures.cases)
+    (stands_passes (g.B.Base.seen.tells c.args.self.now.base) _ b c.requires.writes t) ∙ sym (value_copied _ _ c.in_ok-clone.ensures.cases)
 
 pub returns-in-Some-clause-read : goal.returns-in-Some-clause-read
 returns-in-Some-clause-read g c =
@@ -42,26 +42,26 @@ size_of g c = c.saturating_add-self-inside.ensures ∙ ap (λ n. min (c.self.ins
 
 pub invariant_of-self-2 : goal.invariant_of-self-2
 invariant_of-self-2 g c =
-    let h = ap (λ v. (g.B.Base.seen v.base).writes) c.self.view_is ∙ c.requires.writes in
+    let h = ap (λ v. (g.B.Base.seen.tells v.base).writes) c.self.view_is ∙ c.requires.writes in
     sound_read g.B.Base.seen _ _ c.self.inside.size _ c.self.inside.overlay _ c.args.loc.now c.in_ok-value.value c.self.invariant h (c.in_ok-value.ensures.writes ∙ h) refl c.in_ok-value.ensures.read c.in_default.ensures c.in_ok-value.ensures.shape (size_of g c) c.take.ensures.after
 
 pub returns-clause-answer : goal.returns-clause-answer
 returns-clause-answer g c = judged _ _ c.in_ok-value.value _ c.unless_over.ensures (λ b t.
-    (passes_back c.args.self.now.reads _ b (subst (λ (rs : ReadList). Passes rs b) (new_reads g c) (stands_passes (g.B.Base.seen c.args.self.now.base) _ b c.requires.writes t))).0)
+    (passes_back c.args.self.now.reads _ b (subst (λ (rs : ReadList). Passes rs b) (new_reads g c) (stands_passes (g.B.Base.seen.tells c.args.self.now.base) _ b c.requires.writes t))).0)
 
 pub returns-clause-keeps : goal.returns-clause-keeps
 returns-clause-keeps g c =
     keeps_read g.B.Base.seen c.args.self.now _ _ ((c.args.loc.now, c.in_ok-value.value) ∷ []) (new_reads g c) (ap (λ v. v.effects) c.self.view_is) (ap (λ v. v.trace) c.self.view_is)
-    (c.in_ok-value.ensures.writes ∙ ap (λ v. (g.B.Base.seen v.base).writes) c.self.view_is)
-    (c.in_ok-value.ensures.runs ∙ ap (λ v. (g.B.Base.seen v.base).runs) c.self.view_is)
-    (c.in_ok-value.ensures.asked ∙ ap (λ v. (g.B.Base.seen v.base).asked) c.self.view_is)
-    (c.in_ok-value.ensures.world ∙ ap (λ v. (g.B.Base.seen v.base).world) c.self.view_is)
+    (c.in_ok-value.ensures.writes ∙ ap (λ v. (g.B.Base.seen.tells v.base).writes) c.self.view_is)
+    (c.in_ok-value.ensures.runs ∙ ap (λ v. (g.B.Base.seen.tells v.base).runs) c.self.view_is)
+    (c.in_ok-value.ensures.asked ∙ ap (λ v. (g.B.Base.seen.tells v.base).asked) c.self.view_is)
+    (c.in_ok-value.ensures.world ∙ ap (λ v. (g.B.Base.seen.tells v.base).world) c.self.view_is, λ t. absurd (subst T (sym t ∙ c.requires.writes) tt))
     (λ n. absurd (subst T (sym n ∙ c.requires.writes) tt))
-    (λ w h. (told_value _ w _ _ c.in_ok-value.ensures.answer (ap (λ v. (g.B.Base.seen v.base).world) c.self.view_is ∙ h), tt))
-    (let e = ap (λ v. (g.B.Base.seen v.base).faults) c.self.view_is in omega (arith, e, c.in_ok-value.ensures.later))
+    (λ w h. (told_value _ w _ _ c.in_ok-value.ensures.answer (ap (λ v. (g.B.Base.seen.tells v.base).world) c.self.view_is ∙ h), tt))
+    (let e = ap (λ v. (g.B.Base.seen.tells v.base).faults) c.self.view_is in omega (arith, e, c.in_ok-value.ensures.later))
 
 pub returns-clause-trace : goal.returns-clause-trace
-returns-clause-trace g c = λ w. over_limit _ _ c.in_ok-value.value c.self.inside.trace c.saturating_add-self-inside.result _ c.unless_over.ensures (ap (λ n. ltb n c.saturating_add-self-inside.result) c.from.ensures) (size_read _ _ _ _ _ (c.self.invariant.sized (ap (λ v. (g.B.Base.seen v.base).writes) c.self.view_is ∙ c.requires.writes)) (size_of g c) ∙ ap (λ rs. capped (trace_size rs c.self.inside.effects)) (sym c.in_ok-value.ensures.read)) c.self.ranges.1.1.1.1.1.0.1
+returns-clause-trace g c = λ w. over_limit _ _ c.in_ok-value.value c.self.inside.trace c.saturating_add-self-inside.result _ c.unless_over.ensures (ap (λ n. ltb n c.saturating_add-self-inside.result) c.from.ensures) (size_read _ _ _ _ _ (c.self.invariant.sized (ap (λ v. (g.B.Base.seen.tells v.base).writes) c.self.view_is ∙ c.requires.writes)) (size_of g c) ∙ ap (λ rs. capped (trace_size rs c.self.inside.effects)) (sym c.in_ok-value.ensures.read)) c.self.ranges.1.1.1.1.1.0.1
 
 pub returns-clause-read : goal.returns-clause-read
 returns-clause-read g c = judged _ _ c.in_ok-value.value _ c.unless_over.ensures (read_pushed c.self.inside.reads c.args.loc.now c.in_ok-value.value _ c.in_ok-value.ensures.read)

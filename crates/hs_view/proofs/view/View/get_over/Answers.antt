@@ -40,7 +40,7 @@ pub returns-in-None-clause-answer : goal.returns-in-None-clause-answer
 returns-in-None-clause-answer g c =
     let e = c.in_ok-overlay.ensures in
     let o = c.in_ok-overlay.overlay in
-    if_more c.get_under.result (λ x. (b : WorldData) → Stands (g.B.Base.seen c.settled.new.self.base) c.get_under.new.self.reads b → over_value o c.args.loc.now (At b c.args.loc.now) ≡ x)
+    if_more c.get_under.result (λ x. (b : WorldData) → Stands (g.B.Base.seen.tells c.settled.new.self.base) c.get_under.new.self.reads b → over_value o c.args.loc.now (At b c.args.loc.now) ≡ x)
     (λ x. (u : WorldData) → Showed g.B.Base.seen c.args.self.now c.get_under.new.self u → At u c.args.loc.now ≡ x)
     (λ x f u s.
     over-answer g.B.Base.seen c.args.self.now c.settled.new.self c.get_under.new.self c.args.loc.now o x c.requires.writes e.fetches.keeps.writes e.fetches.effects e.tables e.settled (sym c.in_ok-value.ensures ∙ c.in-None.is)

@@ -26,7 +26,7 @@ keep_unless-requires g c = λ h.
 
 pub returns-clause-value : goal.returns-clause-value
 returns-clause-value g c = λ b s.
-    ap (over_value c.args.overlay c.args.loc.now) (c.in_ok-base.ensures.answer b (subst (λ v. Stands (g.B.Base.seen c.args.self.now.base) v.reads b) c.keep_unless.ensures s)) ∙ sym c.in_ok-value.ensures
+    ap (over_value c.args.overlay c.args.loc.now) (c.in_ok-base.ensures.answer b (subst (λ v. Stands (g.B.Base.seen.tells c.args.self.now.base) v.reads b) c.keep_unless.ensures s)) ∙ sym c.in_ok-value.ensures
 
 pub returns-clause-shape : goal.returns-clause-shape
 returns-clause-shape g c = subst (λ v. is_of c.args.loc.now v ≡ true) (sym c.in_ok-value.ensures) (over-shape c.args.overlay c.args.loc.now c.in_ok-base.base c.in_ok-base.ensures.shape)

@@ -27,7 +27,7 @@ more g c = if-ok c.push.result (sym c.is_err.ensures.value ∙ c.if-is_err.false
 
 pub invariant_of-self-2 : goal.invariant_of-self-2
 invariant_of-self-2 g c =
-    sound-put g.B.Base.seen _ _ c.args.effect c.self.inside.size _ c.saturating_add-size.result c.self.inside.overlay _ c.args.overlay c.self.invariant (ap (λ v. (g.B.Base.seen v.base).writes) c.self.view_is ∙ c.requires.writes) refl refl (more g c)
+    sound-put g.B.Base.seen _ _ c.args.effect c.self.inside.size _ c.saturating_add-size.result c.self.inside.overlay _ c.args.overlay c.self.invariant (ap (λ v. (g.B.Base.seen.tells v.base).writes) c.self.view_is ∙ c.requires.writes) refl refl (more g c)
     (subst (λ v. (w : WorldData) → Showed g.B.Base.seen v v w → is_valid c.args.effect w ≡ true) (sym c.self.view_is) c.requires.valid)
     (ap (λ v. has_push c.args.effect v.effects) c.self.view_is ∙ c.requires.pushed)
     (c.requires.tables ∙ sym (ap (λ v. over_step c.args.effect (tables_of g.B.Base.seen v)) c.self.view_is))
@@ -35,7 +35,7 @@ invariant_of-self-2 g c =
 
 pub returns : goal.returns
 returns g c =
-    let w = ap (λ v. (g.B.Base.seen v.base).writes) c.self.view_is ∙ c.requires.writes in
+    let w = ap (λ v. (g.B.Base.seen.tells v.base).writes) c.self.view_is ∙ c.requires.writes in
     puts-from g.B.Base.seen _ _ _ c.args.effect c.unless_past.result c.self.view_is
     (puts-made g.B.Base.seen _ _ c.args.effect c.unless_past.result _ tt c.saturating_add-self-inside.result w refl refl (more g c) refl (ap (λ v. over_passes c.args.effect (tables_of g.B.Base.seen v)) c.self.view_is ∙ c.requires.short)
     c.unless_past.ensures (ap (λ n. ltb n c.saturating_add-self-inside.result) c.from.ensures)

@@ -21,7 +21,7 @@ returns-in_err-learn_ends-in-None-clause-fetches g c =
     (fetches_on g.B.Base.seen c.sure.new.self c.learn_ends.new.self c.in_err-learn_ends-in-None.field-0.0 _ c.in_err-learn_ends-in-None.ensures.fetches c.from_residual-in_err-learn_ends-in-None.ensures.0 c.from_residual-in_err-learn_ends-in-None.ensures.1)
 
 pub settled_further-requires-clause-writes : goal.settled_further-requires-clause-writes
-settled_further-requires-clause-writes g c = c.in_ok-learn_ends-in-None.ensures.fetches.keeps.writes ∙ ap (λ v. (g.B.Base.seen v.base).writes) c.sure.ensures.same ∙ c.requires.writes
+settled_further-requires-clause-writes g c = c.in_ok-learn_ends-in-None.ensures.fetches.keeps.writes ∙ ap (λ v. (g.B.Base.seen.tells v.base).writes) c.sure.ensures.same ∙ c.requires.writes
 
 pub returns-in_ok-learn_ends-in-None-clause-fetches : goal.returns-in_ok-learn_ends-in-None-clause-fetches
 returns-in_ok-learn_ends-in-None-clause-fetches g c =

@@ -22,7 +22,7 @@ returns-in_err-learn_routes-in-None-clause-fetches g c =
     (fetches_on g.B.Base.seen c.sure.new.self c.learn_routes.new.self c.in_err-learn_routes-in-None.field-0.0 _ c.in_err-learn_routes-in-None.ensures.fetches c.from_residual-in_err-learn_routes-in-None.ensures.0 c.from_residual-in_err-learn_routes-in-None.ensures.1)
 
 pub tables-requires : goal.tables-requires
-tables-requires g c = record { writes = c.in_ok-learn_routes-in-None.ensures.fetches.keeps.writes ∙ ap (λ v. (g.B.Base.seen v.base).writes) c.sure.ensures.same ∙ c.requires.writes }
+tables-requires g c = record { writes = c.in_ok-learn_routes-in-None.ensures.fetches.keeps.writes ∙ ap (λ v. (g.B.Base.seen.tells v.base).writes) c.sure.ensures.same ∙ c.requires.writes }
 
 pub returns-in_ok-learn_routes-in-None-clause-tables : goal.returns-in_ok-learn_routes-in-None-clause-tables
 returns-in_ok-learn_routes-in-None-clause-tables g c = subst (λ v. IfOk c.tables.result (λ o. Tabled g.B.Base.seen v o)) (sym c.tables.ensures.same) c.tables.ensures.tables
