@@ -1,40 +1,29 @@
 -- Effects that are committed in two parts.
-use Rattle.std.proofs.Common.{◌≡◌, ℕ, ◌+◌, ◌<◌, ◌≤◌, true, List, [], ◌∷◌, ◌++◌, Option, Some, None, Err, ◌⊎◌, inl, inr, refl, sym, ap, subst, ◌∙◌, append_assoc, arith, length, take, drop, get_or}
-use Rattle.std.proofs.lemmas.List.{take_more, take-append-drop}
+use Rattle.std.proofs.Common.{◌≡◌, ℕ, ◌≤◌, List, [], ◌∷◌, ◌++◌, Option, Some, None, Err, ◌⊎◌, inl, inr, refl, sym, ap, subst, ◌∙◌, append_assoc, arith}
 use Rattle.hs_world.specs.declared.effect.Effect.{Effect}
 use Rattle.hs_world.specs.declared.effect.Fd.{Fd}
 use Rattle.hs_world.specs.declared.effect.Fd.TheVariants.{One, Two}
 use Rattle.hs_world.specs.declared.world.Limit.{Limit}
 use Rattle.hs_world.specs.declared.effect.Effect.TheVariants.{Emit}
-use Rattle.hs_world.specs.World.{WorldData, AllValid, Apply, Applied, is_valid, passed, sent, sent_by, output, errors}
-use Rattle.hs_world.proofs.Laws.{Applied-append, written-append}
+use Rattle.hs_world.specs.World.{WorldData, Apply, passed, sent, sent_by}
 use Rattle.hs_outside.specs.Causes.{Rose}
 use Rattle.hs_outside.specs.Streams.{appended}
-use Rattle.hs_outside.proofs.Fronts.{appended-nil, appended-append}
 use Rattle.hs_view.specs.Seen.{spent_of}
 use Rattle.hs_view.specs.Steps.{IsFront}
 use Rattle.hs_view.specs.declared.halt.SpentKind.{SpentKind}
 use Rattle.sh_leaf.specs.Cut.{misfit, fitting}
-use Rattle.sh_leaf.proofs.Cuts.{misfit-append, fitting-append, misfit-front, fitting-front}
-use Rattle.hs_drive.specs.declared.commit.Stop.{Stop}
-use Rattle.hs_drive.specs.declared.commit.Stop.TheVariants as stop
+use Rattle.sh_leaf.proofs.Cuts.{fitting-append, misfit-front, fitting-front}
+use Rattle.hs_drive.specs.declared.stop.Stop.{Stop}
+use Rattle.hs_drive.specs.declared.stop.Stop.TheVariants as stop
 use Rattle.hs_drive.specs.Commit.{Streams, gained, IsCommitted, IsShort, IsCutOn, IsFault, IsWant, Commits}
+use Rattle.hs_drive.specs.Joined.{streams, gained-nil, gained-on, fit-on, world-on, commits-nothing, commits-append}
 use Rattle.hs_drive.specs.Through.{written_by, target_of, text_of, with_text}
 
 append-nil : {A : Type 0} (xs : List A) → xs ++ [] ≡ xs
 append-nil [] = refl
 append-nil (x ∷ xs) = ap (λ ys. x ∷ ys) (append-nil xs)
 
-streams : {a b c d : Option (List ℕ)} → a ≡ b → c ≡ d → record { out = a; err = c } ≡ (let s : Streams = record { out = b; err = d } in s)
-streams e f = cc
-
 -- ---- nothing, and one effect
-
-gained-nil : (w : WorldData) (s : Streams) → gained [] w s ≡ s
-gained-nil w s = streams (appended-nil s.out) (appended-nil s.err)
-
-pub commits-nothing : (w : WorldData) (s : Streams) → IsCommitted [] w w s s
-commits-nothing w s = record { fit = refl; world = refl; streams = sym (gained-nil w s) }
 
 gained-one : (e : Effect) (w : WorldData) (s : Streams) → written_by e w s ≡ gained (e ∷ []) w s
 gained-one e w s =
@@ -69,29 +58,6 @@ pub commits-one : (e : Effect) (w w' : WorldData) (s t : Streams) (to : Option F
 commits-one e w w' s t to text f a g k h = record { fit = misfit-one e w None f; world = a; streams = h ∙ with-sent e w s to text g k ∙ gained-one e w s }
 
 -- ---- two parts
-
-gained-append : (es fs : List Effect) (w : WorldData) (s : Streams) → gained (es ++ fs) w s ≡ gained fs (Applied es w) (gained es w s)
-gained-append es fs w s = streams
-    (ap (λ (bytes : List ℕ). appended s.out bytes) (written-append One es fs w) ∙ sym (appended-append s.out (output es w) (output fs (Applied es w))))
-    (ap (λ (bytes : List ℕ). appended s.err bytes) (written-append Two es fs w) ∙ sym (appended-append s.err (errors es w) (errors fs (Applied es w))))
-
--- the streams after the first part, and then the second
-gained-on : (es fs : List Effect) (w v : WorldData) (s t : Streams) → IsCommitted es w v s t → gained fs v t ≡ gained (es ++ fs) w s
-gained-on es fs w v s t c =
-    ap (λ (u : WorldData). gained fs u t) c.world ∙ ap (λ (r : Streams). gained fs (Applied es w) r) c.streams ∙ sym (gained-append es fs w s)
-
-fit-on : (es fs : List Effect) (w v : WorldData) (s t : Streams) → IsCommitted es w v s t → misfit fs v ≡ misfit (es ++ fs) w
-fit-on es fs w v s t c = ap (λ (u : WorldData). misfit fs u) c.world ∙ sym (misfit-append es fs w c.fit)
-
-world-on : (es fs : List Effect) (w v : WorldData) (s t : Streams) → IsCommitted es w v s t → Applied fs v ≡ Applied (es ++ fs) w
-world-on es fs w v s t c = ap (λ (u : WorldData). Applied fs u) c.world ∙ sym (Applied-append es fs w)
-
-pub commits-append : (es fs : List Effect) (w v u : WorldData) (s t r : Streams) → IsCommitted es w v s t → IsCommitted fs v u t r → IsCommitted (es ++ fs) w u s r
-commits-append es fs w v u s t r c d = record {
-  fit = sym (fit-on es fs w v s t c) ∙ d.fit;
-  world = d.world ∙ world-on es fs w v s t c;
-  streams = d.streams ∙ gained-on es fs w v s t c;
-}
 
 cut-on : (fd : Fd) (a b a' b' r : Streams) (piece piece' : List ℕ) → a ≡ a' → b ≡ b' → piece ≡ piece' → IsCutOn fd a b r piece → IsCutOn fd a' b' r piece'
 cut-on fd a b a' b' r piece piece' e f g c =
@@ -159,10 +125,6 @@ one-spent out err e w w' s limit same-limit kind p l k same = (
   subst (λ (xs : List Effect). IsCommitted xs w w' s s) (sym (fitting-none e w limit p)) (subst (λ (x : WorldData). IsCommitted [] w x s s) (sym same) (commits-nothing w s)),
 )
 
-pub one-wants : (out err : Type 0) (e : Effect) (w w' : WorldData) (s : Streams) → w' ≡ w → Commits out err (e ∷ []) w w' s s (Err stop.NoMemory)
-one-wants out err e w w' s same =
-    ([], record { rest = e ∷ []; is = refl }, inl (subst (λ (x : WorldData). IsCommitted [] w x s s) (sym same) (commits-nothing w s)))
-
 one-short : (fd : Fd) (e : Effect) (w w' : WorldData) (s t : Streams) (to : Option Fd) (text : List ℕ) → passed e w ≡ None → w' ≡ Apply e w → to ≡ target_of e w → text ≡ text_of e →
     IsCutOn fd s (with_text to text s) t (sent_by to fd text) → IsShort fd (e ∷ []) w w' s t
 one-short fd e w w' s t to text p a g k c = record {
@@ -174,54 +136,19 @@ one-short fd e w w' s t to text p a g k c = record {
   cut = cut-on fd _ _ _ _ t _ _ (sym (gained-nil w s)) (with-sent e w s to text g k ∙ gained-one e w s) (sent-as fd e w to text g k) c;
 }
 
-one-front : (e : Effect) → IsFront (e ∷ []) (e ∷ [])
-one-front e = record { rest = []; is = refl }
+-- of what the effect writes a front went out
+pub short-faults : (out err : Type 0) (e : Effect) (w w' : WorldData) (s t : Streams) (to : Option Fd) (text : List ℕ) → passed e w ≡ None → w' ≡ Apply e w → to ≡ target_of e w → text ≡ text_of e →
+    (out × IsCutOn One s (with_text to text s) t (sent_by to One text)) ⊎ (err × IsCutOn Two s (with_text to text s) t (sent_by to Two text)) → IsFault out err (e ∷ []) w w' s t
+short-faults out err e w w' s t to text p a g k (inl (o, c)) = inl (o, one-short One e w w' s t to text p a g k c)
+short-faults out err e w w' s t to text p a g k (inr (o, c)) = inr (o, one-short Two e w w' s t to text p a g k c)
 
-pub one-faults : (out err : Type 0) (e : Effect) (w w' : WorldData) (s t : Streams) (to : Option Fd) (text : List ℕ) → passed e w ≡ None → w' ≡ Apply e w →
-    to ≡ target_of e w → text ≡ text_of e →
-    (out × IsCutOn One s (with_text to text s) t (sent_by to One text)) ⊎ (err × IsCutOn Two s (with_text to text s) t (sent_by to Two text)) →
-    Commits out err (e ∷ []) w w' s t (Err stop.OutFault)
-one-faults out err e w w' s t to text p a g k (inl (o, c)) = (e ∷ [], one-front e, inl (o, one-short One e w w' s t to text p a g k c))
-one-faults out err e w w' s t to text p a g k (inr (o, c)) = (e ∷ [], one-front e, inr (o, one-short Two e w w' s t to text p a g k c))
-
-pub one-cut : (out err : Type 0) (e : Effect) (w w' : WorldData) (s t : Streams) (to : Option Fd) (text : List ℕ) → passed e w ≡ None → w' ≡ Apply e w →
-    to ≡ target_of e w → text ≡ text_of e →
-    IsCutOn One s (with_text to text s) t (sent_by to One text) ⊎ IsCutOn Two s (with_text to text s) t (sent_by to Two text) →
-    Commits out err (e ∷ []) w w' s t (Err stop.NoMemory)
-one-cut out err e w w' s t to text p a g k (inl c) = (e ∷ [], one-front e, inr (inl (one-short One e w w' s t to text p a g k c)))
-one-cut out err e w w' s t to text p a g k (inr c) = (e ∷ [], one-front e, inr (inr (one-short Two e w w' s t to text p a g k c)))
+pub short-wants : (e : Effect) (w w' : WorldData) (s t : Streams) (to : Option Fd) (text : List ℕ) → passed e w ≡ None → w' ≡ Apply e w → to ≡ target_of e w → text ≡ text_of e →
+    IsCutOn One s (with_text to text s) t (sent_by to One text) ⊎ IsCutOn Two s (with_text to text s) t (sent_by to Two text) → IsShort One (e ∷ []) w w' s t ⊎ IsShort Two (e ∷ []) w w' s t
+short-wants e w w' s t to text p a g k (inl c) = inl (one-short One e w w' s t to text p a g k c)
+short-wants e w w' s t to text p a g k (inr c) = inr (one-short Two e w w' s t to text p a g k c)
 
 pub rose-later : (a b c : ℕ) → a ≤ b → Rose b c → Rose a c
 rose-later a b c h r = omega arith
-
--- ---- one effect after those before it
-
-taken : (es : List Effect) (i : ℕ) (e : Effect) → i < length es → e ≡ get_or es i e → take i es ++ e ∷ [] ≡ take (i + 1) es
-taken es i e h is = ap (λ (x : Effect). take i es ++ x ∷ []) is ∙ sym (take_more es i e h)
-
-pub commits-next : (es : List Effect) (i : ℕ) (e : Effect) (w v u : WorldData) (s t r : Streams) → i < length es → e ≡ get_or es i e →
-    IsCommitted (take i es) w v s t → IsCommitted (e ∷ []) v u t r → IsCommitted (take (i + 1) es) w u s r
-commits-next es i e w v u s t r h is c d =
-    subst (λ (xs : List Effect). IsCommitted xs w u s r) (taken es i e h is) (commits-append (take i es) (e ∷ []) w v u s t r c d)
-
-pub stops-next : {out err out' err' : Type 0} (es : List Effect) (i : ℕ) (e : Effect) (w v u : WorldData) (s t r : Streams) (why : Stop) → (out → out') → (err → err') →
-    i < length es → e ≡ get_or es i e → IsCommitted (take i es) w v s t → Commits out err (e ∷ []) v u t r (Err why) → Commits out' err' es w u s r (Err why)
-stops-next {out' = out'} {err' = err'} es i e w v u s t r why f g h is c d =
-    let a = stops-before out' err' (take i es ++ e ∷ []) (drop (i + 1) es) w u s r why (stops-append (take i es) (e ∷ []) w v u s t r why f g c d) in
-    let same : (take i es ++ e ∷ []) ++ drop (i + 1) es ≡ es = ap (λ (xs : List Effect). xs ++ drop (i + 1) es) (taken es i e h is) ∙ take-append-drop (i + 1) es in
-    subst (λ (xs : List Effect). Commits out' err' xs w u s r (Err why)) same a
-
-valid-at : (es : List Effect) (e : Effect) (fs : List Effect) (w : WorldData) → AllValid (es ++ e ∷ fs) w → is_valid e (Applied es w) ≡ true
-valid-at [] e fs w h = h.0
-valid-at (x ∷ es) e fs w h = valid-at es e fs (Apply x w) h.1
-
--- the next effect is valid where those before it are committed
-pub valid-next : (es : List Effect) (i : ℕ) (e : Effect) (w v : WorldData) (s t : Streams) → i < length es → e ≡ get_or es i e →
-    AllValid es w → IsCommitted (take i es) w v s t → is_valid e v ≡ true
-valid-next es i e w v s t h is valid c =
-    let whole : take i es ++ e ∷ drop (i + 1) es ≡ es =
-    sym (append_assoc (take i es) (e ∷ []) (drop (i + 1) es)) ∙ ap (λ (xs : List Effect). xs ++ drop (i + 1) es) (taken es i e h is) ∙ take-append-drop (i + 1) es in
-    ap (λ (u : WorldData). is_valid e u) c.world ∙ valid-at (take i es) e (drop (i + 1) es) w (subst (λ (xs : List Effect). AllValid xs w) (sym whole) valid)
 
 pub rose-on : (a b c : ℕ) → b ≤ c → Rose a b → Rose a c
 rose-on a b c h r = omega arith

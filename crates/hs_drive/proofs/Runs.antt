@@ -1,9 +1,10 @@
 -- A run that is committed leaf by leaf.
-use Rattle.std.proofs.Common.{◌≡◌, ◌≢◌, ℕ, ◌+◌, ◌-◌, ◌<◌, suc, List, [], ◌∷◌, ◌++◌, length, drop, get_or, Option, Some, None, Result, Ok, Err, inl, inr, refl, sym, ap, subst, ◌∙◌, drop-cons, add-one, append_assoc, ◌==◌, true, arith}
+use Rattle.std.proofs.Common.{◌≡◌, ◌≢◌, ℕ, ◌+◌, ◌-◌, ◌<◌, ◌≤◌, suc, List, [], ◌∷◌, ◌++◌, length, drop, get_or, Option, Some, None, Result, Ok, Err, inl, inr, refl, sym, ap, subst, ◌∙◌, drop-cons, add-one, append_assoc, ◌==◌, true, arith}
 use Rattle.std.proofs.lemmas.Bool.Decides.{nat_tests}
 use Rattle.hs_world.specs.declared.effect.Effect.{Effect}
 use Rattle.hs_world.specs.declared.world.Limit.{Limit}
 use Rattle.hs_world.specs.World.{WorldData, Applied}
+use Rattle.hs_outside.specs.Causes.{Rose}
 use Rattle.hs_view.specs.Seen.{spent_of}
 use Rattle.hs_view.specs.Steps.{IsFront}
 use Rattle.hs_view.specs.declared.halt.SpentKind.{SpentKind}
@@ -15,14 +16,18 @@ use Rattle.sh_leaf.specs.Run as run
 use Rattle.sh_leaf.specs.State.{State, Got, Gave, Ends, Ran_out, onward, state_of, begin}
 use Rattle.sh_leaf.specs.declared.outcome.Outcome.{Outcome}
 use Rattle.sh_leaf.specs.declared.outcome.Outcome.TheVariants.{Status, Break, Continue, Return, Exit}
-use Rattle.hs_drive.specs.declared.commit.Stop.{Stop}
-use Rattle.hs_drive.specs.declared.commit.Stop.TheVariants as stop
+use Rattle.hs_drive.specs.declared.stop.Stop.{Stop}
+use Rattle.hs_drive.specs.declared.stop.Stop.TheVariants as stop
 use Rattle.hs_drive.specs.declared.ending.Ending.{Ending}
 use Rattle.hs_drive.specs.declared.ending.Ending.TheVariants as ending
 use Rattle.hs_drive.specs.declared.ending.Report.{Report}
 use Rattle.hs_drive.specs.Commit.{Streams, IsCommitted, IsFault, IsWant, Commits}
+use Rattle.hs_drive.specs.Direct.{Tells}
+use Rattle.hs_drive.specs.Joined.{commits-nothing, commits-append}
+use Rattle.hs_drive.specs.Ran.{Ran}
+use Rattle.hs_drive.specs.declared.run.Run.{Run}
 use Rattle.hs_drive.specs.Plain.{LeafRuns, Came, IsSpent, GotRuns, IsStopped, IsWhole, IsTold, Runs, IsComplete, ending_of, leaf_got}
-use Rattle.hs_drive.proofs.Commits.{commits-nothing, commits-append, stops-append, stops-before}
+use Rattle.hs_drive.proofs.Commits.{stops-append, stops-before}
 use Rattle.sh_leaf.proofs.Cuts.{fitting-append, fitting-all}
 use Rattle.hs_drive.proofs.Leaves.{joined, onto, leaf-on}
 
@@ -244,6 +249,22 @@ run-want got w w' s t report done front (inr (inr d)) n = stopped-by got w w' do
 pub got-same : (out err : Type 0) (got got' : Got Outcome) (w w' : WorldData) (turns head : ℕ) (s t : Streams) (result : Result Outcome Stop) → got ≡ got' →
     GotRuns out err got w w' turns head s t result → GotRuns out err got' w w' turns head s t result
 got-same out err got got' w w' turns head s t result e h = subst (λ (g : Got Outcome). GotRuns out err g w w' turns head s t result) e h
+
+pub ran-same : {O E : Type 0} (out : Tells O) (err : Tells E) (got got' : Got Outcome) (a b : Run O E) (head : ℕ) (result : Result Outcome Stop) → got ≡ got' → Ran out err got a b head result → Ran out err got' a b head result
+ran-same out err got got' a b head result e h = subst (λ (g : Got Outcome). Ran out err g a b head result) e h
+
+-- the same between streams that were taken and put back
+pub ran-between : {O E : Type 0} (out : Tells O) (err : Tells E) (got : Got Outcome) (a b : Run O E) (head : ℕ) (result : Result Outcome Stop) (o o' : O) (e e' : E) → a.base.out ≡ o → a.base.err ≡ e → o' ≡ b.base.out → e' ≡ b.base.err → Ran out err got a b head result
+    → GotRuns (Rose (out.faults o) (out.faults o')) (Rose (err.faults e) (err.faults e')) got a.base.world b.base.world b.turns head (record { out = out.written o; err = err.written e }) (record { out = out.written o'; err = err.written e' }) result
+ran-between {O} {E} out err got a b head result o o' e e' p q p' q' r =
+    subst (λ (x : O). GotRuns (Rose (out.faults x) (out.faults o')) (Rose (err.faults e) (err.faults e')) got a.base.world b.base.world b.turns head (record { out = out.written x; err = err.written e }) (record { out = out.written o'; err = err.written e' }) result) p
+    (subst (λ (x : E). GotRuns (Rose (out.faults a.base.out) (out.faults o')) (Rose (err.faults x) (err.faults e')) got a.base.world b.base.world b.turns head (record { out = out.written a.base.out; err = err.written x }) (record { out = out.written o'; err = err.written e' }) result) q
+    (subst (λ (x : O). GotRuns (Rose (out.faults a.base.out) (out.faults x)) (Rose (err.faults a.base.err) (err.faults e')) got a.base.world b.base.world b.turns head (record { out = out.written a.base.out; err = err.written a.base.err }) (record { out = out.written x; err = err.written e' }) result) (sym p')
+    (subst (λ (x : E). GotRuns (Rose (out.faults a.base.out) (out.faults b.base.out)) (Rose (err.faults a.base.err) (err.faults x)) got a.base.world b.base.world b.turns head (record { out = out.written a.base.out; err = err.written a.base.err }) (record { out = out.written b.base.out; err = err.written x }) result) (sym q')
+    r.runs)))
+
+pub later-between : {S : Type 0} (faults : S → ℕ) (a b o o' : S) → a ≡ o → o' ≡ b → faults a ≤ faults b → faults o ≤ faults o'
+later-between {S} faults a b o o' p q h = subst (λ (x : S). faults x ≤ faults o') p (subst (λ (x : S). faults a ≤ faults x) (sym q) h)
 
 not-zero : (n : ℕ) → true ≡ (suc n == 0) → ⊥
 not-zero n e = grind (arith, nat_tests)

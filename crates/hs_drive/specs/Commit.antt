@@ -9,8 +9,8 @@ use Rattle.hs_outside.specs.Streams.{appended, IsCut}
 use Rattle.hs_view.specs.Seen.{spent_of}
 use Rattle.hs_view.specs.Steps.{IsFront}
 use Rattle.sh_leaf.specs.Cut.{misfit, fitting}
-use Rattle.hs_drive.specs.declared.commit.Stop.{Stop}
-use Rattle.hs_drive.specs.declared.commit.Stop.TheVariants as stop
+use Rattle.hs_drive.specs.declared.stop.Stop.{Stop}
+use Rattle.hs_drive.specs.declared.stop.Stop.TheVariants as stop
 
 -- what standard output and standard error hold, where they tell
 pub record Streams : Type 0 where

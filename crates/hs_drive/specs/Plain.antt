@@ -13,8 +13,8 @@ use Rattle.sh_leaf.specs.Run.{Final, whole_run}
 use Rattle.sh_leaf.specs.Run as run
 use Rattle.sh_leaf.specs.State.{State, Ran_out, Got, Gave, Ends, begin, state_of}
 use Rattle.sh_leaf.specs.declared.outcome.Outcome.{Outcome}
-use Rattle.hs_drive.specs.declared.commit.Stop.{Stop}
-use Rattle.hs_drive.specs.declared.commit.Stop.TheVariants as stop
+use Rattle.hs_drive.specs.declared.stop.Stop.{Stop}
+use Rattle.hs_drive.specs.declared.stop.Stop.TheVariants as stop
 use Rattle.hs_drive.specs.declared.ending.Ending.{Ending}
 use Rattle.hs_drive.specs.declared.ending.Ending.TheVariants as ending
 use Rattle.hs_drive.specs.declared.ending.Report.{Report}
@@ -87,9 +87,10 @@ leaf_got script k w turns = Do script most_nested most_frames k (begin w turns [
 abbrev pub LeafRuns : (out err : Type 0) → Script → ℕ → (w w' : WorldData) → (turns turns' : ℕ) → Streams → Streams → Result Outcome Stop → Type 0
 LeafRuns out err script k w w' turns turns' old new result = GotRuns out err (leaf_got script k w turns) w w' turns' 0 old new result
 
--- Why a run stops where a leaf that ran ahead came to a halt. A trace of more than 2^64 - 1 bytes is want of memory.
+-- Why a run stops where a leaf came to a halt. What is no limit and no fault is want of memory.
 abbrev pub stop_of : Halt → Stop
 stop_of (halt.Spent kind) = stop.Spent kind
+stop_of halt.Fault = stop.OutFault
 stop_of _ = stop.NoMemory
 
 abbrev pub ending_of : Stop → Ending

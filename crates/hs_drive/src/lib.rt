@@ -2,11 +2,10 @@
 //! streams, and how the run ends.
 #![tactic(auto)]
 
-mod commit;
+mod direct;
 mod ending;
 mod run;
-mod written;
+mod stop;
 
-pub use commit::{Stop, commit_all};
 pub use ending::{Ending, Report, syntax_line};
 pub use run::plain;

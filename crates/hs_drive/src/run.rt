@@ -1,35 +1,28 @@
 //! A run of a script, one leaf after another.
 
-ghost use Rattle.std.specs.Prelude.{◌≡◌, ◌≢◌, ◌≤◌, ◌-◌, ℕ, List, [], true, Err, IfOk};
+ghost use Rattle.std.specs.Prelude.{◌≡◌, ◌≢◌, ◌≤◌, ◌-◌, ℕ, [], true};
 ghost use Rattle.std.specs.Arc.{arc_value};
 ghost use Rattle.hs_outside.specs.Causes.{Rose};
-ghost use Rattle.hs_world.specs.Files.{IsTree};
-ghost use Rattle.hs_view.specs.Fixed.{world_of};
-ghost use Rattle.hs_world.specs.Reads.{Passes};
-ghost use Rattle.hs_world.specs.World.{AllValid, WorldData};
 ghost use Rattle.sh_leaf.specs.Built.{is_built};
 ghost use Rattle.sh_leaf.specs.Cut.{Serial};
-ghost use Rattle.sh_leaf.specs.Do.{most_frames, most_nested};
-ghost use Rattle.sh_leaf.specs.Halting.{Halts};
-ghost use Rattle.sh_leaf.specs.Record.{Holds};
 ghost use Rattle.sh_leaf.specs.Run.{list_at, run_items, run_list, status_of};
 ghost use Rattle.sh_leaf.specs.State.{begin};
 ghost use Rattle.sh_syntax.specs.declared.tree.Script.{Script};
 ghost use Rattle.hs_drive.specs.Commit.{Streams};
-ghost use Rattle.hs_drive.specs.Plain.{GotRuns, IsComplete, LeafRuns, Runs, ending_of, leaf_got, stop_of};
+ghost use Rattle.hs_drive.specs.Plain.{IsComplete, Runs, ending_of, leaf_got, stop_of};
+ghost use Rattle.hs_drive.specs.Direct.{told};
+ghost use Rattle.hs_drive.specs.Ran.{Ran};
 
-mod turn;
-
-use crate::commit::{Stop, commit_all};
+use crate::direct::Direct;
 use crate::ending::{Ending, Report};
+use crate::stop::Stop;
 use hs_outside::{Host, Sink};
-use hs_view::{Fixed, Halt, Kept, SpentKind, Trace};
+use hs_view::{Base, Halt};
 use hs_world::{Effect, Limits, World};
-use sh_leaf::{Fuel, Outcome, Record, do_leaf};
+use sh_leaf::{Fuel, HeadRecord, Outcome, do_head_leaf};
 use sh_syntax::{AndOr, Script};
 use std::alloc::Global;
 use std::sync::Arc;
-use turn::run_in_turn;
 
 /// The most compound commands and calls of a leaf that may be begun in one another.
 const FRAMES: u32 = 2_000;
@@ -38,149 +31,85 @@ const FRAMES: u32 = 2_000;
 const NESTED: u32 = 64;
 
 /// Where a run stands between two leaves.
-#[derive(Drop)]
-struct Run {
-    world: World,
+struct Run<O: Sink, E: Sink> {
+    base: Direct<O, E>,
     /// The turns that are left.
     turns: u32,
     /// The leaves that were done.
     head: u64,
 }
 
-impl Run {
+impl<O: Sink, E: Sink> Run<O, E> {
     fn report(&self, turns: u32) -> Report
-        ensures { result ≡ record { head = self.now.head; turns = turns - self.now.turns; count = self.now.world.count } }
+        ensures { result ≡ record { head = self.now.head; turns = turns - self.now.turns; count = self.now.base.world.count } }
     {
         Report {
             head: self.head,
             turns: turns.saturating_sub(self.turns),
-            count: self.world.count(),
+            count: self.base.world.count(),
         }
     }
 }
 
-/// Each entry of the tree is in a folder.
-fn in_folders(world: &World)
-    ensures { IsTree world.now.tree }
-{
-    world.promise();
-}
-
-/// Commits what a leaf did, and spends its record.
-fn commit_record<O: Sink, E: Sink>(
-    ran: Record,
-    run: Run,
-    out: &mut O,
-    err: &mut E,
-) -> (Run, Result<Outcome, Stop>)
-    requires passes { Passes ran.reads run.world }
-    requires turns { ran.turns ≤ run.turns }
-    ensures runs { LeafRuns (Rose (O.faults out.old) (O.faults out.new)) (Rose (E.faults err.old) (E.faults err.new)) ran.script ran.number run.world result.0.world run.turns result.0.turns
-        (record { out = O.written out.old; err = E.written err.old }) (record { out = O.written out.new; err = E.written err.new }) result.1 }
-    ensures head { result.0.head ≡ run.head }
-    ensures out_later { O.faults out.old ≤ O.faults out.new }
-    ensures err_later { E.faults err.old ≤ E.faults err.new }
-{
-    let mut run = run;
-    ran.promise();
-    in_folders(&run.world);
-    run.turns -= ran.turns();
-    let outcome = ran.outcome();
-    let committed = commit_all(&mut run.world, ran.effects().as_slice(), out, err);
-    ran.drop_it();
-    match committed {
-        Ok(()) => (run, Ok(outcome)),
-        Err(stop) => (run, Err(stop)),
-    }
-}
-
-/// Why a run stops where a leaf came to a halt over the committed state.
+/// Why a run stops where a leaf came to a halt.
 fn stop_of(halt: Halt) -> Stop
-    requires fault { halt ≢ Halt.Fault }
     requires outside { halt ≢ Halt.Outside }
-    requires tree { halt ≢ Halt.Spent SpentKind.Tree }
-    requires bytes { halt ≢ Halt.Spent SpentKind.Bytes }
+    requires trace { halt ≢ Halt.Trace }
     ensures { result ≡ stop_of halt }
 {
     match halt {
-        Halt::Spent(SpentKind::Turns) => Stop::Spent(SpentKind::Turns),
-        Halt::Spent(SpentKind::Frames) => Stop::Spent(SpentKind::Frames),
-        Halt::Trace | Halt::NoMemory => Stop::NoMemory,
-        Halt::Spent(SpentKind::Bytes | SpentKind::Tree) | Halt::Fault | Halt::Outside => {
-            unreachable!()
-        }
+        Halt::Spent(kind) => Stop::Spent(kind),
+        Halt::Fault => Stop::OutFault,
+        Halt::NoMemory => Stop::NoMemory,
+        Halt::Outside | Halt::Trace => unreachable!(),
     }
 }
 
-/// Commits what a leaf did until it came to a halt.
-fn commit_halted<O: Sink, E: Sink>(
-    halt: Halt,
-    trace: Trace,
-    run: Run,
-    out: &mut O,
-    err: &mut E,
-) -> (Run, Result<Outcome, Stop>)
-    requires fault { halt ≢ Halt.Fault }
-    requires outside { halt ≢ Halt.Outside }
-    requires tree { halt ≢ Halt.Spent SpentKind.Tree }
-    requires bytes { halt ≢ Halt.Spent SpentKind.Bytes }
-    requires valid { AllValid trace.effects run.world }
-    ensures runs { (script : Script) (number : ℕ) → IsTree run.world.tree → Passes trace.reads run.world → Halts (λ w. leaf_got script number w run.turns) trace.reads trace.effects halt
-        → LeafRuns (Rose (O.faults out.old) (O.faults out.new)) (Rose (E.faults err.old) (E.faults err.new)) script number run.world result.0.world run.turns result.0.turns
-        (record { out = O.written out.old; err = E.written err.old }) (record { out = O.written out.new; err = E.written err.new }) result.1 }
-    ensures head { result.0.head ≡ run.head }
-    ensures stops { IfOk result.1 (λ _. ⊥) }
-    ensures out_later { O.faults out.old ≤ O.faults out.new }
-    ensures err_later { E.faults err.old ≤ E.faults err.new }
-{
-    let mut run = run;
-    let committed = commit_all(&mut run.world, trace.effects().as_slice(), out, err);
-    drop(trace);
-    match committed {
-        Ok(()) => (run, Err(stop_of(halt))),
-        Err(stop) => (run, Err(stop)),
-    }
-}
-
-/// Does one leaf: it is run ahead over the committed state, and what it did is committed then. Where a text of it is too long
-/// to be kept among what it does, it is done again, in its turn.
+/// Does one leaf in its turn: each effect is committed before the next one.
 fn run_leaf<O: Sink, E: Sink>(
     alloc: Global,
     script: &Arc<Script>,
     number: u32,
-    run: Run,
-    out: &mut O,
-    err: &mut E,
-) -> (Run, Result<Outcome, Stop>)
-    ensures runs { LeafRuns (Rose (O.faults out.old) (O.faults out.new)) (Rose (E.faults err.old) (E.faults err.new)) (arc_value script.now) number run.world result.0.world run.turns result.0.turns
-        (record { out = O.written out.old; err = E.written err.old }) (record { out = O.written out.new; err = E.written err.new }) result.1 }
+    run: Run<O, E>,
+) -> (Run<O, E>, Result<Outcome, Stop>)
+    requires faults { run.base.faults ≡ 0 }
+    ensures ran { Ran (told O.written O.faults) (told E.written E.faults) (leaf_got (arc_value script.now) number run.base.world run.turns) run result.0 0 result.1 }
     ensures head { result.0.head ≡ run.head }
-    ensures out_later { O.faults out.old ≤ O.faults out.new }
-    ensures err_later { E.faults err.old ≤ E.faults err.new }
 {
-    let Run { world, turns, head } = run;
-    in_folders(&world);
+    let Run { base, turns, head } = run;
     let fuel = Fuel {
         turns,
         frames: FRAMES,
         nested: NESTED,
         trace: u64::MAX,
     };
-    match do_leaf(alloc, script, number, fuel, Fixed::new(world)) {
-        Ok((base, record)) => {
-            let world = base.into_world();
-            commit_record(record, Run { world, turns, head }, out, err)
-        }
+    match do_head_leaf(alloc, script, number, fuel, base) {
+        Ok((base, done)) => ended_leaf(base, done, turns, head),
         Err((base, halt, trace)) => {
-            let world = base.into_world();
-            let run = Run { world, turns, head };
-            if halt == Halt::Spent(SpentKind::Bytes) {
-                drop(trace);
-                return run_in_turn(alloc, script, number, run, out, err);
-            }
-            commit_halted(halt, trace, run, out, err)
+            drop(trace);
+            (Run { base, turns, head }, Err(stop_of(halt)))
         }
     }
+}
+
+/// Where a run stands after a leaf, and what that came to.
+fn ended_leaf<O: Sink, E: Sink>(
+    base: Direct<O, E>,
+    done: HeadRecord,
+    turns: u32,
+    head: u64,
+) -> (Run<O, E>, Result<Outcome, Stop>)
+    requires turns { done.turns ≤ turns }
+    ensures { result ≡ (record { base = base; turns = turns - done.turns; head = head }, Ok done.outcome) }
+{
+    let HeadRecord {
+        effects,
+        outcome,
+        turns: taken,
+    } = done;
+    drop(effects);
+    let turns = turns - taken;
+    (Run { base, turns, head }, Ok(outcome))
 }
 
 /// Does commands one after another, up to one that comes to no status.
@@ -188,16 +117,11 @@ fn run_items<O: Sink, E: Sink>(
     alloc: Global,
     script: &Arc<Script>,
     items: &[AndOr],
-    run: Run,
-    out: &mut O,
-    err: &mut E,
-) -> (Run, Result<Outcome, Stop>)
+    run: Run<O, E>,
+) -> (Run<O, E>, Result<Outcome, Stop>)
     requires head { run.head ≡ 0 }
-    ensures runs { GotRuns (Rose (O.faults out.old) (O.faults out.new)) (Rose (E.faults err.old) (E.faults err.new)) (run_items (arc_value script.now) items.now (Outcome.Status 0) (begin run.world run.turns []))
-        run.world result.0.world result.0.turns result.0.head
-        (record { out = O.written out.old; err = E.written err.old }) (record { out = O.written out.new; err = E.written err.new }) result.1 }
-    ensures out_later { O.faults out.old ≤ O.faults out.new }
-    ensures err_later { E.faults err.old ≤ E.faults err.new }
+    requires faults { run.base.faults ≡ 0 }
+    ensures { Ran (told O.written O.faults) (told E.written E.faults) (run_items (arc_value script.now) items.now (Outcome.Status 0) (begin run.base.world run.turns [])) run result.0 result.0.head result.1 }
 {
     let mut run = run;
     let mut outcome = Outcome::Status(0);
@@ -205,7 +129,7 @@ fn run_items<O: Sink, E: Sink>(
         let Outcome::Status(_) = outcome else {
             return (run, Ok(outcome));
         };
-        let (next, came) = run_leaf(alloc, script, item.first, run, out, err);
+        let (next, came) = run_leaf(alloc, script, item.first, run);
         run = next;
         match came {
             Ok(last) => outcome = last,
@@ -217,18 +141,15 @@ fn run_items<O: Sink, E: Sink>(
 }
 
 /// A list without commands.
-fn run_nothing<O: Sink, E: Sink>(run: Run, out: &mut O, err: &mut E) -> (Run, Result<Outcome, Stop>)
+fn run_nothing<O: Sink, E: Sink>(run: Run<O, E>) -> (Run<O, E>, Result<Outcome, Stop>)
     requires head { run.head ≡ 0 }
-    ensures runs { (script : Script) → GotRuns (Rose (O.faults out.old) (O.faults out.new)) (Rose (E.faults err.old) (E.faults err.new)) (run_list script [] (begin run.world run.turns []))
-        run.world result.0.world result.0.turns result.0.head
-        (record { out = O.written out.old; err = E.written err.old }) (record { out = O.written out.new; err = E.written err.new }) result.1 }
-    ensures out_later { O.faults out.old ≤ O.faults out.new }
-    ensures err_later { E.faults err.old ≤ E.faults err.new }
+    requires faults { run.base.faults ≡ 0 }
+    ensures { (script : Script) → Ran (told O.written O.faults) (told E.written E.faults) (run_list script [] (begin run.base.world run.turns [])) run result.0 result.0.head result.1 }
 {
     let mut run = run;
-    match commit_all(&mut run.world, &[Effect::SetStatus(0)], out, err) {
+    match run.base.push(&Effect::SetStatus(0)) {
         Ok(()) => (run, Ok(Outcome::Status(0))),
-        Err(stop) => (run, Err(stop)),
+        Err(halt) => (run, Err(stop_of(halt))),
     }
 }
 
@@ -247,39 +168,29 @@ fn run_list<O: Sink, E: Sink>(
     alloc: Global,
     script: &Arc<Script>,
     items: &[AndOr],
-    run: Run,
-    out: &mut O,
-    err: &mut E,
-) -> (Run, Result<Outcome, Stop>)
+    run: Run<O, E>,
+) -> (Run<O, E>, Result<Outcome, Stop>)
     requires head { run.head ≡ 0 }
-    ensures runs { GotRuns (Rose (O.faults out.old) (O.faults out.new)) (Rose (E.faults err.old) (E.faults err.new)) (run_list (arc_value script.now) items.now (begin run.world run.turns []))
-        run.world result.0.world result.0.turns result.0.head
-        (record { out = O.written out.old; err = E.written err.old }) (record { out = O.written out.new; err = E.written err.new }) result.1 }
-    ensures out_later { O.faults out.old ≤ O.faults out.new }
-    ensures err_later { E.faults err.old ≤ E.faults err.new }
+    requires faults { run.base.faults ≡ 0 }
+    ensures { Ran (told O.written O.faults) (told E.written E.faults) (run_list (arc_value script.now) items.now (begin run.base.world run.turns [])) run result.0 result.0.head result.1 }
 {
     if items.is_empty() {
-        return run_nothing(run, out, err);
+        return run_nothing(run);
     }
-    run_items(alloc, script, items, run, out, err)
+    run_items(alloc, script, items, run)
 }
 
 /// Does the whole script, which is its first list.
 fn run_script<O: Sink, E: Sink>(
     alloc: Global,
     script: &Arc<Script>,
-    run: Run,
-    out: &mut O,
-    err: &mut E,
-) -> (Run, Result<Outcome, Stop>)
+    run: Run<O, E>,
+) -> (Run<O, E>, Result<Outcome, Stop>)
     requires head { run.head ≡ 0 }
-    ensures runs { GotRuns (Rose (O.faults out.old) (O.faults out.new)) (Rose (E.faults err.old) (E.faults err.new)) (run_list (arc_value script.now) (list_at (arc_value script.now) 0) (begin run.world run.turns []))
-        run.world result.0.world result.0.turns result.0.head
-        (record { out = O.written out.old; err = E.written err.old }) (record { out = O.written out.new; err = E.written err.new }) result.1 }
-    ensures out_later { O.faults out.old ≤ O.faults out.new }
-    ensures err_later { E.faults err.old ≤ E.faults err.new }
+    requires faults { run.base.faults ≡ 0 }
+    ensures { Ran (told O.written O.faults) (told E.written E.faults) (run_list (arc_value script.now) (list_at (arc_value script.now) 0) (begin run.base.world run.turns [])) run result.0 result.0.head result.1 }
 {
-    run_list(alloc, script, list_at(script, 0), run, out, err)
+    run_list(alloc, script, list_at(script, 0), run)
 }
 
 /// The status of a script that ends so. A `break` or `continue` has status 0.
@@ -302,9 +213,8 @@ fn ending_of(stop: Stop) -> Ending
     }
 }
 
-/// Runs a script to its end, with no thread, and says how it ended. Each leaf is
-/// run over the committed state, whose effects are written through before the next leaf begins. The time is linear in
-/// what the script does.
+/// Runs a script to its end, with no thread, and says how it ended. Each leaf is done in its turn on the committed state, and what it
+/// writes has gone to its stream before the next effect. The streams are owned meanwhile. The time is linear in what the script does.
 pub fn plain<H: Host, O: Sink, E: Sink>(
     alloc: Global,
     script: Arc<Script>,
@@ -326,15 +236,43 @@ pub fn plain<H: Host, O: Sink, E: Sink>(
     ensures err_later { E.faults err.old ≤ E.faults err.new }
 {
     let _ = host;
-    let run = Run {
+    let base = Direct {
         world,
+        out: out.take(alloc),
+        err: err.take(alloc),
+        faults: 0,
+    };
+    let run = Run {
+        base,
         turns: limits.turns,
         head: 0,
     };
-    let (run, came) = run_script(alloc, &script, run, out, err);
+    let (run, came) = run_script(alloc, &script, run);
     let report = run.report(limits.turns);
+    give_back(run, out, err);
     match came {
         Ok(outcome) => (Ending::Done(status_of(outcome)), report),
         Err(stop) => (ending_of(stop), report),
     }
+}
+
+/// Puts the streams back, and the state away.
+fn give_back<O: Sink, E: Sink>(run: Run<O, E>, out: &mut O, err: &mut E)
+    ensures out { out.new ≡ run.base.out }
+    ensures err { err.new ≡ run.base.err }
+{
+    let Run {
+        base,
+        turns: _,
+        head: _,
+    } = run;
+    let Direct {
+        world,
+        out: out_then,
+        err: err_then,
+        faults: _,
+    } = base;
+    drop(world);
+    out.put(out_then);
+    err.put(err_then);
 }

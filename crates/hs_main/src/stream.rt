@@ -7,6 +7,7 @@ use hs_outside::{Failed, Sink, Source};
 use hs_text::Text;
 use std::alloc::Global;
 use std::io::{ErrorKind, Read, Write};
+use std::mem;
 
 /// How often an interrupted call is made again.
 const TRIES: u32 = 1000;
@@ -29,6 +30,16 @@ fn write_some<W: Write>(writer: &mut W, piece: &[u8]) -> Option<usize>
     None
 }
 
+/// Writes a front of the piece, if there is a writer.
+fn written_by<W: Write>(writer: &mut Option<W>, piece: &[u8]) -> Option<usize>
+    ensures { IfSome result (λ n. (0 < n) × (n ≤ length piece.now)) }
+{
+    match writer {
+        Some(writer) => write_some(writer, piece),
+        None => None,
+    }
+}
+
 /// Reads into the buffer, and says how many bytes.
 fn read_some<R: Read>(reader: &mut R, buffer: &mut [u8]) -> Option<usize>
     ensures { IfSome result (λ n. n ≤ length buffer.old) }
@@ -46,30 +57,46 @@ fn read_some<R: Read>(reader: &mut R, buffer: &mut [u8]) -> Option<usize>
 /// A writer as a sink.
 #[derive(Drop)]
 pub struct StreamSink<W> {
-    writer: W,
+    /// None is a sink that takes nothing: each write to it fails.
+    writer: Option<W>,
     faults: u64,
 }
 
 impl<W> StreamSink<W> {
     pub fn new(writer: W) -> StreamSink<W> {
-        StreamSink { writer, faults: 0 }
+        StreamSink {
+            writer: Some(writer),
+            faults: 0,
+        }
     }
 }
 
-impl<W: Write> Sink for StreamSink<W> {
+impl<W: Write + Drop> Sink for StreamSink<W> {
     ghost written = { λ s. None };
 
     ghost faults = { λ s. s.faults };
 
     fn write(&mut self, piece: &[u8]) -> Result<u32, Failed> {
         let front = piece.split_at(piece.len().min(MOST)).0;
-        match write_some(&mut self.writer, front) {
+        match written_by(&mut self.writer, front) {
             Some(count) => Ok(count as u32),
             None => {
                 self.faults = self.faults.saturating_add(1);
                 Err(Failed::Fault)
             }
         }
+    }
+
+    fn take(&mut self, _alloc: Global) -> StreamSink<W> {
+        let empty = StreamSink {
+            writer: None,
+            faults: 0,
+        };
+        mem::replace(self, empty)
+    }
+
+    fn put(&mut self, sink: StreamSink<W>) {
+        *self = sink;
     }
 }
 

@@ -38,6 +38,14 @@ impl Sink for Counter {
         self.taken = self.taken.saturating_add(count as u64);
         Ok(count as u32)
     }
+
+    fn take(&mut self, _alloc: Global) -> Counter {
+        Counter { taken: self.taken }
+    }
+
+    fn put(&mut self, sink: Counter) {
+        *self = sink;
+    }
 }
 
 /// Puts the files `f0`, `f1` and so on into a tree, all with this text, and says whether that went well.
