@@ -1,0 +1,3 @@
+mod Examples
+pub mod Separating
+pub mod SoFar
