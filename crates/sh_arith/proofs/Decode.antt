@@ -5,31 +5,7 @@ use Rattle.sh_arith.specs.declared.instr.Instr.{Instr}
 use Rattle.sh_arith.specs.declared.instr.Instr.TheVariants as instr
 use Rattle.sh_arith.specs.Grammar.{Tree, number, read, signed, binary, logic, choice, assign}
 use Rattle.sh_arith.specs.Machine.{emit}
-
-abbrev top : List Tree → Tree
-top [] = read 0 []
-top (t ∷ ts) = t
-
-abbrev under : List Tree → List Tree
-under [] = []
-under (t ∷ ts) = ts
-
--- the trees that an instruction leaves on a stack of trees
-abbrev put : List Tree → Instr → List Tree
-put ts (instr.Number n) = number n ∷ ts
-put ts (instr.Read p x) = read p x ∷ ts
-put ts (instr.Sign s) = signed s (top ts) ∷ under ts
-put ts (instr.Math m) = binary m (top (under ts)) (top ts) ∷ under (under ts)
-put ts (instr.Begin p) = ts
-put ts instr.Otherwise = ts
-put ts (instr.End (part.Logic l)) = logic l (top (under ts)) (top ts) ∷ under (under ts)
-put ts (instr.End part.Choice) = choice (top (under (under ts))) (top (under ts)) (top ts) ∷ under (under (under ts))
-put ts (instr.Store None p x) = assign None p x (top ts) ∷ under ts
-put ts (instr.Store (Some m) p x) = assign (Some m) p x (top ts) ∷ under (under ts)
-
-abbrev trees : List Tree → List Instr → List Tree
-trees ts [] = ts
-trees ts (i ∷ is) = trees (put ts i) is
+use Rattle.sh_arith.specs.Trees.{put, trees}
 
 snoc : (is : List Instr) (ts : List Tree) (i : Instr) → trees ts (is ++ i ∷ []) ≡ put (trees ts is) i
 snoc [] ts i = refl
@@ -57,6 +33,10 @@ decode (assign (Some m) p x t) is =
     let mid = is ++ instr.Read p x ∷ [] in
     snoc (emit t mid) [] (instr.Store (Some m) p x)
     ∙ ap (λ (ts : List Tree). put ts (instr.Store (Some m) p x)) (decode t mid ∙ ap (λ (ts : List Tree). t ∷ ts) (snoc is [] (instr.Read p x)))
+
+-- an expression's instructions tell it
+pub decode-all : (t : Tree) → trees [] (emit t []) ≡ t ∷ []
+decode-all t = decode t []
 
 pub same_tree : (t u : Tree) → emit t [] ≡ emit u [] → t ≡ u
 same_tree t u e = let h : t ∷ [] ≡ u ∷ [] = sym (decode t []) ∙ ap (trees []) e ∙ decode u [] in cc

@@ -13,5 +13,6 @@ pub mod Rooms
 pub mod Sound
 pub mod Text
 pub mod Told
+pub mod Trees
 pub mod Viable
 pub mod Wraps

@@ -12,4 +12,5 @@ pub mod Number
 pub mod Stack
 pub mod Steps
 pub mod Told
+pub mod Trees
 pub mod Value

@@ -13,11 +13,13 @@ mod stack;
 mod step;
 mod token;
 
+pub use calc::NoNumber;
 pub use evaluation::evaluate;
-pub use exec::NotDone;
+pub use exec::{NotDone, operand, plain, skip_one, take};
 pub use instr::{Frame, Instr, Now, Part, Rest};
 pub use names::{ArithErr, Assigned, Names};
-pub use reading::ReadErr;
+pub use number::value_of;
+pub use reading::{ReadErr, read};
 pub use stack::Stack;
 pub use token::{LexError, Logic, Math, Op, Sign, Token};
 

@@ -1,0 +1,4 @@
+pub mod Doing
+pub mod Earlier
+pub mod States
+pub mod Stepping
