@@ -1,0 +1,6 @@
+mod Examples
+mod Newlines
+mod Numbers
+mod Places
+mod Searches
+mod Unread

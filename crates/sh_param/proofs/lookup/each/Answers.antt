@@ -1,0 +1,18 @@
+use Rattle.std.proofs.Common.{List, ℕ, ap}
+use Rattle.hs_world.specs.World.{WorldData}
+use Rattle.hs_view.specs.Steps.{nothing}
+use Rattle.hs_view.proofs.Acting.{acts_on, acts_read, acts_unread}
+use Rattle.sh_param.specs.declared.value.ParamValue.TheVariants.{Each}
+use Rattle.sh_param.proofs.lookup.each.Goals as goal
+
+pub returns-in_err-_zero : goal.returns-in_err-_zero
+returns-in_err-_zero g c =
+    let e = c.in_err-_zero.ensures in
+    acts_on g.B.Base.seen (λ (w : WorldData). nothing (Each c.args.star w.params) w) c.args.view.now c.params.new.self c.in_err-_zero.field-0.0 _ c.from_residual.ensures.0 c.from_residual.ensures.1
+    (acts_unread g.B.Base.seen (λ (w : WorldData). nothing (Each c.args.star w.params) w) c.args.view.now c.params.new.self c.in_err-_zero.field-0.0 (record { effects = e.effects; keeps = e.keeps; fault = e.fault; trace = e.trace; through = e.through; spent = e.spent; outside = e.outside }) e.world)
+
+pub returns : goal.returns
+returns g c =
+    let e = c.in_ok-_zero.ensures in
+    acts_read g.B.Base.seen (λ (w : WorldData). nothing (Each c.args.star w.params) w) c.args.view.now c.params.new.self _ _ (record { effects = e.effects; keeps = e.keeps; fault = e.fault; trace = e.trace; through = e.through; spent = e.spent; outside = e.outside })
+    (λ u s. ap (λ (p : List ℕ × List (List ℕ)). nothing (Each c.args.star p.1) u) (e.answer u s))

@@ -1,0 +1,23 @@
+use Rattle.std.proofs.Common.{List, ℕ, Option, sym, ap, ◌∙◌}
+use Rattle.hs_world.specs.World.{WorldData}
+use Rattle.hs_world.specs.declared.var.Var.{Var}
+use Rattle.hs_view.specs.Steps.{nothing}
+use Rattle.hs_view.proofs.Acting.{acts_on, acts_read, acts_unread}
+use Rattle.sh_param.specs.Lookups.{text_in, text_of, one_or_unset}
+use Rattle.sh_param.specs.declared.value.ParamValue.{ParamValue}
+use Rattle.sh_param.proofs.lookup.variable.Goals as goal
+
+pub returns-in_err-var : goal.returns-in_err-var
+returns-in_err-var g c =
+    let e = c.in_err-var.ensures in
+    acts_on g.B.Base.seen (λ (w : WorldData). nothing (one_or_unset (text_of c.args.name.now w)) w) c.args.view.now c.var.new.self c.in_err-var.field-0.0 _ c.from_residual.ensures.0 c.from_residual.ensures.1
+    (acts_unread g.B.Base.seen (λ (w : WorldData). nothing (one_or_unset (text_of c.args.name.now w)) w) c.args.view.now c.var.new.self c.in_err-var.field-0.0 (record { effects = e.effects; keeps = e.keeps; fault = e.fault; trace = e.trace; through = e.through; spent = e.spent; outside = e.outside }) e.world)
+
+pub returns : goal.returns
+returns g c =
+    let e = c.in_ok-var.ensures in
+    acts_read g.B.Base.seen (λ (w : WorldData). nothing (one_or_unset (text_of c.args.name.now w)) w) c.args.view.now c.var.new.self c.in_ok-var.var c.one_or_unset.result (record { effects = e.effects; keeps = e.keeps; fault = e.fault; trace = e.trace; through = e.through; spent = e.spent; outside = e.outside })
+    (λ u s.
+    ap (λ (o : Option Var). nothing (one_or_unset (text_in o)) u) (e.answer u s)
+    ∙ ap (λ (o : Option (List ℕ)). nothing (one_or_unset o) u) (sym c.text_in.ensures)
+    ∙ ap (λ (v : ParamValue). nothing v u) (sym c.one_or_unset.ensures))

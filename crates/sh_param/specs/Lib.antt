@@ -1,0 +1,13 @@
+pub mod Assigns
+pub mod Kinds
+pub mod Lookups
+pub mod Messages
+pub mod Modes
+pub mod Outputs
+pub mod Parts
+pub mod Pieces
+pub mod Plans
+pub mod Tildes
+pub mod Trims
+pub mod Values
+pub mod Words
