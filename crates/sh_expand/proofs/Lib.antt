@@ -1,0 +1,17 @@
+pub mod Calls
+pub mod Ending
+pub mod Folds
+pub mod Inward
+pub mod Layered
+pub mod Layers
+pub mod Looking
+pub mod Looks
+pub mod Moving
+pub mod Operations
+pub mod Operators
+pub mod Putting
+pub mod Shells
+pub mod Stepping
+pub mod Steps
+pub mod Telling
+pub mod Weighing
