@@ -18,9 +18,13 @@
 //!
 //! runs a script over so many files `f0`, `f1` and so on, each of so many bytes, and prints how many bytes it writes.
 //!
+//!     hs_measure script FILE
+//!
+//! does so with the script of a file, over no files.
+//!
 //!     hs_measure over FILE SCRIPT
 //!
-//! does so over one file `f0`, with the bytes of a file, which are standard input too.
+//! runs a script over one file `f0`, with the bytes of a file, which are standard input too.
 //!
 //! Each of the others prints how many effects, entries or reads came, or comparisons said yes.
 #![tactic(auto)]
@@ -105,13 +109,18 @@ fn main(rt: HostRuntime) -> anyhow::Result<()> {
             let count = leaves(rt.alloc(), &text)?;
             println!(rt; "{count}")?;
         }
+        [kind, file] if kind.as_str() == "script" => {
+            let text = fs::read(&rt, file.as_str())?;
+            let answer = runs::run(rt.alloc(), 0, 0, &text)?;
+            println!(rt; "{answer}")?;
+        }
         [kind, count] => {
             let count = count.parse::<u32>().context("COUNT is no number")?;
             let answer = work(rt.alloc(), kind.as_str(), count)?;
             println!(rt; "{answer}")?;
         }
         _ => bail!(
-            "usage: hs_measure match PATTERN PIECE COUNT, hs_measure run FILES BYTES SCRIPT, hs_measure over FILE SCRIPT, hs_measure parse FILE, or hs_measure WORK COUNT"
+            "usage: hs_measure match PATTERN PIECE COUNT, hs_measure run FILES BYTES SCRIPT, hs_measure over FILE SCRIPT, hs_measure script FILE, hs_measure parse FILE, or hs_measure WORK COUNT"
         ),
     }
     Ok(())
