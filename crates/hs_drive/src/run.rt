@@ -225,7 +225,6 @@ pub fn plain<H: Host, O: Sink, E: Sink>(
     err: &mut E,
 ) -> (Ending, Report)
     requires built { is_built (arc_value script) ≡ true }
-    requires bytes { 2097152 ≤ limits.bytes }
     ensures runs { Runs (Rose (O.faults out.old) (O.faults out.new)) (Rose (E.faults err.old) (E.faults err.new)) (arc_value script) world limits.turns
         (record { out = O.written out.old; err = E.written err.old }) (record { out = O.written out.new; err = E.written err.new }) result.0 result.1 }
     ensures complete { IsComplete (Rose (O.faults out.old) (O.faults out.new)) (Rose (E.faults err.old) (E.faults err.new)) (Serial (arc_value script) world limits.turns []) result.0 }

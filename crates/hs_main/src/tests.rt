@@ -4,6 +4,8 @@ ghost use Rattle.std.specs.Arc.{arc_value};
 ghost use Rattle.std.specs.Prelude.{◌≡◌, ◌≤◌, true};
 ghost use Rattle.sh_leaf.specs.Built.{is_built};
 
+mod expanding;
+
 use crate::gate::NoGate;
 use crate::top::{Answer, top};
 use hs_drive::{Ending, Report, plain};
@@ -148,14 +150,15 @@ fn rows(rt: HostRuntime) -> Result<(), Fail> {
         told(&[b"-c", b"tee /"], b"hs: tee: /: is a folder\n"),
         told(&[b"-c", b"wc f"], b"hs: wc: f: no such file\n"),
         unbuilt(&[b"-c", b"'cat' f"]),
-        unbuilt(&[b"-c", b"echo $x"]),
+        unbuilt(&[b"-c", b"echo $(echo a)"]),
+        unbuilt(&[b"-c", b"echo \"${x:-`echo a`}\""]),
+        unbuilt(&[b"-c", b"$x a"]),
         refused(&[b"-c", b"echo 'a"], Fault::Unclosed(Opening::Single)),
         refused(&[b"-c", b"; echo a"], Fault::Unexpected),
         refused(&[b"-c", b"a & b"], Fault::Unexpected),
         refused(&[b"-c", b"echo ${a$b}"], Fault::BadParameter),
         unbuilt(&[b"-c", b"ls"]),
         unbuilt(&[b"-c", b"echo a && echo b"]),
-        unbuilt(&[b"-c", b"echo *"]),
         unbuilt(&[b"-c", b"echo a >f"]),
         unbuilt(&[b"-c", b"{ echo a; }"]),
         unbuilt(&[b"-c"]),
@@ -199,7 +202,7 @@ fn utilities_run_by_their_names(rt: HostRuntime) -> Result<(), Fail> {
             &[b"-c", b"comm f f"],
             b"hs: comm: f: no such file\nhs: comm: f: no such file\n",
         ),
-        unbuilt(&[b"-c", b"echo ["]),
+        done(&[b"-c", b"echo ["], b"[\n"),
     ];
     for row in rows.iter() {
         let shown = run(rt.alloc(), row.words)?;
@@ -287,11 +290,23 @@ fn run_plain(
     err: &mut MemorySink,
 ) -> Option<(Ending, Report)>
     requires built { is_built (arc_value script) ≡ true }
-    requires bytes { 2097152 ≤ limits.bytes }
 {
     match MemoryHost::new(Tree::new(alloc), Vec::new(alloc)) {
         Ok(mut host) => Some(plain(alloc, script, world, limits, &mut host, out, err)),
         Err(_) => None,
+    }
+}
+
+/// A state without files, variables and parameters.
+fn first_world(alloc: Global, limits: Limits) -> Result<World, AllocError>
+    requires least { 1024 ≤ limits.bytes }
+    requires most { limits.bytes ≤ 268435456 }
+{
+    let (zero, params) = (Text::new(alloc), TextList::new(alloc));
+    let (tree, input) = (Tree::new(alloc), Text::new(alloc));
+    match World::new(alloc, tree, Vec::new(alloc), zero, params, input, limits) {
+        Ok(world) => Ok(world),
+        Err(_) => Err(AllocError),
     }
 }
 
@@ -307,15 +322,7 @@ fn a_run_with_one_turn_does_one_command(rt: HostRuntime) -> Result<(), Fail> {
     };
     let mut out = MemorySink::new(alloc, 2, Vec::new(alloc))?;
     let mut err = MemorySink::new(alloc, 2, Vec::new(alloc))?;
-    let world = World::new(
-        alloc,
-        Tree::new(alloc),
-        Vec::new(alloc),
-        Text::new(alloc),
-        TextList::new(alloc),
-        Text::new(alloc),
-        limits,
-    )?;
+    let world = first_world(alloc, limits)?;
     let ran = run_plain(alloc, script, world, limits, &mut out, &mut err);
     let (ending, report) = ran.ok_or("no memory for a host")?;
     assert_eq!(rt; ending, Ending::Spent(SpentKind::Turns));

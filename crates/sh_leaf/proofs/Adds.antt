@@ -10,10 +10,9 @@ use Rattle.hs_view.specs.Steps.{Done}
 use Rattle.sh_syntax.specs.declared.tree.AndOr.{AndOr}
 use Rattle.sh_syntax.specs.declared.tree.Pipeline.{Pipeline}
 use Rattle.sh_syntax.specs.declared.tree.Script.{Script}
-use Rattle.sh_leaf.proofs.Valid.{leaf_valid}
-use Rattle.sh_leaf.specs.Command.{command, leaf_done, leaf_words, utility}
+use Rattle.sh_leaf.proofs.Commands.{leaf_valid}
+use Rattle.sh_leaf.specs.Command.{leaf_done}
 use Rattle.sh_leaf.specs.Do.{Do, most_frames, most_nested}
-use Rattle.sh_leaf.specs.Fields.{fields}
 use Rattle.sh_leaf.specs.Run.{counted, ended, list_at, run_items, run_leaf, run_list, whole_run}
 use Rattle.sh_leaf.specs.State.{Answer, Got, Gave, Ends, State, begin, did, make, onward, state_of, with_turn}
 use Rattle.sh_leaf.specs.declared.outcome.Outcome.{Outcome}
@@ -89,18 +88,6 @@ whole_adds script w turns answers =
       world = a.world ∙ ap (λ (es : List Effect). Applied es w) (sym a.effects);
       valid = subst (λ (es : List Effect). AllValid es w) (sym a.effects) a.valid;
     })
-
--- ---- what a leaf leaves
-
-command_status : (words : List (List ℕ)) (w : WorldData) → (command words w).answer ≡ Status (Applied (command words w).effects w).status
-command_status [] w = refl
-command_status (name ∷ args) w =
-    let d = utility name args w in
-    sym (ap (λ (u : WorldData). Status u.status) (Applied-append d.effects (SetStatus d.answer ∷ []) w))
-
--- the status that it came to
-pub leaf_status : (pipeline : Option Pipeline) (w : WorldData) → (leaf_done pipeline w).answer ≡ Status (Applied (leaf_done pipeline w).effects w).status
-leaf_status pipeline w = command_status (fields (leaf_words pipeline)) w
 
 -- ---- a leaf inside a run
 

@@ -1,7 +1,13 @@
 pub mod Adds
+pub mod Coming
+pub mod Commands
 pub mod Cuts
 pub mod Examples
 pub mod Heads
+pub mod Inducting
 pub mod Leaves
+pub mod Nested
 pub mod Operands
+pub mod Planned
+pub mod Puts
 pub mod Valid

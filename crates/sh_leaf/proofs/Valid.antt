@@ -1,4 +1,4 @@
--- The effects of a leaf are valid where they come, in every state.
+-- What utilities do is valid where it comes, in every state.
 use Rattle.std.proofs.Common.{◌≡◌, ℕ, zero, suc, Bool, true, false, List, [], ◌∷◌, refl, sym, ap}
 use Rattle.std.specs.Prelude.{Option, Some, None, Result, Ok, Err, codes, if◌then◌else◌}
 use Rattle.hs_world.specs.Files.{entry_at, is_dir, is_file, kind_of}
@@ -8,7 +8,6 @@ use Rattle.hs_world.specs.declared.effect.Fd.TheVariants.{One}
 use Rattle.hs_world.specs.declared.entry.Entry.{Entry}
 use Rattle.hs_world.specs.declared.entry.Entry.TheVariants.{File, Dir, Other}
 use Rattle.hs_view.specs.Acts.{answering}
-use Rattle.sh_syntax.specs.declared.tree.Pipeline.{Pipeline}
 use Rattle.util_common.specs.Operands.{content_in, content_taken, dash, emitted, input_read, none_yet, operands_written, or_input, refused, status_of}
 use Rattle.util_common.specs.Words.{is_given, last_value, words_of}
 use Rattle.util_common.specs.declared.content.Content.{Content}
@@ -61,9 +60,7 @@ use Rattle.util_text.specs.declared.ends.Ends.{Ends}
 use Rattle.util_text.specs.declared.gathering.Gathered.{Gathered}
 use Rattle.util_text.specs.declared.slicing.Items.{Items}
 use Rattle.sh_leaf.proofs.Operands.{Valid, filters_valid, operands_valid, taken_by, valid_then}
-use Rattle.sh_leaf.specs.Command.{command, leaf_done, leaf_words, set_status, utility}
-use Rattle.sh_leaf.specs.Fields.{fields}
-use Rattle.sh_leaf.specs.Utilities.{does, found, named}
+use Rattle.sh_leaf.specs.Utilities.{does, found}
 use Rattle.sh_leaf.specs.declared.utility.Utility.{Utility}
 use Rattle.sh_leaf.specs.declared.utility.Utility.TheVariants.{Basename, Bracket, Cat, Comm, Cut, Dirname, Echo, False, Fold, Grep, Head, Paste, Printf, Pwd, Sort, Tail, Tee, Test, Tr, True, Uniq, Wc}
 
@@ -355,7 +352,7 @@ tr_valid : (words : Result Options Why) → Valid (tr_by words)
 tr_valid (Ok options) w = tr_of_valid (translating.wanted (asked_by options.given) options.operands) w
 tr_valid (Err why) w = (refl, tt)
 
--- ---- commands
+-- ---- utilities
 
 does_valid : (utility : Utility) (args : List (List ℕ)) → Valid (does utility args)
 does_valid Basename args w = basename_valid (words_of no_options args) w
@@ -381,13 +378,6 @@ does_valid True args w = tt
 does_valid Uniq args w = uniq_valid (words_of uniq_options args) w
 does_valid Wc args w = wc_valid (words_of wc_options args) w
 
-found_valid : (utility : Option Utility) (args : List (List ℕ)) → Valid (found utility args)
+pub found_valid : (utility : Option Utility) (args : List (List ℕ)) → Valid (found utility args)
 found_valid None args w = tt
 found_valid (Some utility) args w = does_valid utility args w
-
-command_valid : (words : List (List ℕ)) → Valid (command words)
-command_valid [] w = (refl, tt)
-command_valid (name ∷ args) w = valid_then (utility name args) set_status (found_valid (named name) args) (λ status u. (refl, tt)) w
-
-pub leaf_valid : (pipeline : Option Pipeline) → Valid (leaf_done pipeline)
-leaf_valid pipeline = command_valid (fields (leaf_words pipeline))

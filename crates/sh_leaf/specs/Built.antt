@@ -1,15 +1,18 @@
--- Which scripts are built: commands one after another, each of a utility that is built, whose arguments need no expansion.
-use Rattle.std.specs.Prelude.{ℕ, Bool, true, false, not, ◌&&◌, ◌||◌, List, [], ◌∷◌, nat_eq, is_some}
-use Rattle.std.specs.List.{list_all, list_any}
-use Rattle.sh_syntax.specs.declared.tree.Part.{Part, out-Part}
+-- Which scripts are built: simple commands one after another, whose words and assignments have no command substitution at any depth, each
+-- with the plain name of a utility that is built as its first word, if it has words.
+use Rattle.std.specs.Prelude.{ℕ, Bool, true, false, not, ◌&&◌, List, [], ◌∷◌, Option, None, Some, is_some}
+use Rattle.std.specs.List.{list_all}
+use Rattle.sh_syntax.specs.declared.tree.Part.{Part, fold-Part}
 use Rattle.sh_syntax.specs.declared.tree.Part.TheOpen as open_part
-use Rattle.sh_syntax.specs.declared.tree.Part.{Plain, Single, Escaped}
+use Rattle.sh_syntax.specs.declared.tree.Part.TheOpen.{Part-F, Word-F}
+use Rattle.sh_syntax.specs.declared.tree.Part.{Plain}
 use Rattle.sh_syntax.specs.declared.tree.Word.{Word}
 use Rattle.sh_syntax.specs.declared.tree.Command.{Command}
 use Rattle.sh_syntax.specs.declared.tree.Command.TheVariants.{Simple}
 use Rattle.sh_syntax.specs.declared.tree.Pipeline.{Pipeline}
 use Rattle.sh_syntax.specs.declared.tree.AndOr.{AndOr}
 use Rattle.sh_syntax.specs.declared.tree.List as tree
+use Rattle.sh_syntax.specs.declared.tree.Redir.{Redir}
 use Rattle.sh_syntax.specs.declared.tree.Script.{Script}
 use Rattle.sh_leaf.specs.Utilities.{named}
 
@@ -17,23 +20,40 @@ abbrev pub is_none : {A : Type 0} → List A → Bool
 is_none [] = true
 is_none (_ ∷ _) = false
 
--- `~`, `*`, `?` and `[`, which stand for other things where they are not quoted (POSIX.1-2017, XCU 2.6.1 and 2.13)
-abbrev pub is_special : ℕ → Bool
-is_special b = nat_eq b 126 || nat_eq b 42 || nat_eq b 63 || nat_eq b 91
+-- ---- words
 
-abbrev pub is_inner : Part → Bool
-is_inner (Plain bytes) = true
-is_inner (Escaped byte) = true
-is_inner _ = false
+abbrev pub all_true : List Bool → Bool
+all_true [] = true
+all_true (b ∷ bs) = b && all_true bs
+
+abbrev pub all_true_in : Option (List Bool) → Bool
+all_true_in None = true
+all_true_in (Some bs) = all_true bs
+
+-- by what is so of the parts inside
+abbrev pub layer_built : Part-F Bool (List Bool) → Bool
+layer_built p = elim p [
+  | open_part.Plain t ↦ true
+  | open_part.Single t ↦ true
+  | open_part.Escaped b ↦ true
+  | open_part.Double parts ↦ all_true parts
+  | open_part.Param name o colon word ↦ all_true_in word
+  | open_part.Command n ↦ false
+  | open_part.Arith word ↦ all_true word
+]
+
+abbrev pub parts_in : Word-F Bool (List Bool) → List Bool
+parts_in w = w.parts
 
 abbrev pub is_built_part : Part → Bool
-is_built_part (Plain bytes) = not (list_any is_special bytes)
-is_built_part (Single bytes) = true
-is_built_part (Escaped byte) = true
-is_built_part p = elim (out-Part p) [ open_part.Double parts ↦ list_all is_inner parts | open_part.Plain bytes ↦ false | open_part.Single bytes ↦ false | open_part.Escaped byte ↦ false | open_part.Param name op colon word ↦ false | open_part.Command n ↦ false | open_part.Arith text ↦ false ]
+is_built_part p = fold-Part Bool (List Bool) layer_built parts_in p
 
 abbrev pub is_built_word : Word → Bool
 is_built_word word = list_all is_built_part word.parts
+
+abbrev pub is_built_operand : Option Word → Bool
+is_built_operand None = true
+is_built_operand (Some word) = is_built_word word
 
 abbrev pub is_known_part : Part → Bool
 is_known_part (Plain bytes) = is_some (named bytes)
@@ -44,17 +64,22 @@ is_known_name [] = false
 is_known_name (p ∷ []) = is_known_part p
 is_known_name (_ ∷ _ ∷ _) = false
 
--- The first word is written plain, and is the name of a utility, `[` too; the others need no expansion.
+-- The first word is written plain, and is the name of a utility.
 abbrev pub are_built_words : List Word → Bool
-are_built_words [] = false
+are_built_words [] = true
 are_built_words (name ∷ args) = is_known_name name.parts && list_all is_built_word args
 
--- no assignment stands before the words, and no redirection beside them
-abbrev pub is_bare : {A B : Type 0} → List A → List B → Bool
-is_bare assigns redirs = is_none assigns && is_none redirs
+-- ---- commands
+
+abbrev pub is_built_assign : List ℕ × Word → Bool
+is_built_assign a = is_built_word a.1
+
+-- no redirection stands beside the words
+abbrev pub is_built_simple : List (List ℕ × Word) → List Word → List Redir → Bool
+is_built_simple assigns words redirs = list_all is_built_assign assigns && are_built_words words && is_none redirs
 
 abbrev pub is_built_command : Command → Bool
-is_built_command (Simple assigns words redirs) = is_bare assigns redirs && are_built_words words
+is_built_command (Simple assigns words redirs) = is_built_simple assigns words redirs
 is_built_command _ = false
 
 -- one command, without `!`

@@ -1,8 +1,9 @@
+pub mod Assigning
 pub mod Built
 pub mod Command
 pub mod Cut
 pub mod Do
-pub mod Fields
+pub mod Expanding
 pub mod Halting
 pub mod Head
 pub mod Record

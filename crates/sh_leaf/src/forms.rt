@@ -1,54 +1,56 @@
 //! Which scripts are built. Each part of the tree is looked at once, and no memory is taken.
 
 ghost use Rattle.std.specs.Prelude.{◌≡◌};
-ghost use Rattle.std.specs.List.{list_all, list_any};
-ghost use Rattle.sh_leaf.specs.Built.{are_built_words, is_alone, is_bare, is_built, is_built_command, is_built_part, is_built_pipeline, is_built_word, is_inner, is_known_name, is_known_part, is_sequence, is_special, is_unjoined};
+ghost use Rattle.std.specs.List.{list_all};
+ghost use Rattle.sh_leaf.specs.Built.{are_built_words, is_alone, is_built, is_built_assign, is_built_command, is_built_operand, is_built_part, is_built_pipeline, is_built_simple, is_built_word, is_known_name, is_known_part, is_sequence, is_unjoined};
 
 use crate::utility::named;
 use hs_text::Text;
 use sh_syntax::{AndOr, Command, List, Part, Pipeline, Redir, Script, Word};
 
-fn is_special(byte: u8) -> bool
-    ensures { result ≡ is_special byte }
+/// Whether no part has a command substitution, at any depth. Calls go as deep as parts lie in one another.
+#[cycle(parts)]
+fn are_built_parts(parts: &[Part]) -> bool
+    ensures { result ≡ list_all is_built_part parts.now }
 {
-    byte == b'~' || byte == b'*' || byte == b'?' || byte == b'['
+    for i in 0..parts.len() {
+        if !is_built_part(&parts[i]) {
+            return false;
+        }
+    }
+    true
 }
 
-fn has_special(bytes: &[u8]) -> bool
-    ensures { result ≡ list_any is_special bytes.now }
-{
-    bytes.iter().any(|byte| is_special(*byte))
-}
-
-/// Whether a part inside double quotes needs no expansion.
-fn is_inner(part: &Part) -> bool
-    ensures { result ≡ is_inner part.now }
-{
-    matches!(part, Part::Plain(_) | Part::Escaped(_))
-}
-
-fn are_inner(parts: &[Part]) -> bool
-    ensures { result ≡ list_all is_inner parts.now }
-{
-    parts.iter().all(|part| is_inner(part))
-}
-
+#[cycle(parts)]
 fn is_built_part(part: &Part) -> bool
     ensures { result ≡ is_built_part part.now }
 {
     match part {
-        Part::Plain(bytes) => !has_special(bytes.as_slice()),
+        Part::Plain(_) => true,
         Part::Single(_) => true,
         Part::Escaped(_) => true,
-        Part::Double(parts) => are_inner(parts.as_slice()),
-        _ => false,
+        Part::Double(parts) => are_built_parts(parts.as_slice()),
+        Part::Param { word, .. } => is_built_operand(word),
+        Part::Command(_) => false,
+        Part::Arith(word) => is_built_word(word),
     }
 }
 
+#[cycle(parts)]
+fn is_built_operand(word: &Option<Word>) -> bool
+    ensures { result ≡ is_built_operand word.now }
+{
+    match word {
+        None => true,
+        Some(word) => is_built_word(word),
+    }
+}
+
+#[cycle(parts)]
 fn is_built_word(word: &Word) -> bool
     ensures { result ≡ is_built_word word.now }
 {
-    word.parts.as_slice().iter().all(|part| is_built_part(part))
+    are_built_parts(word.parts.as_slice())
 }
 
 fn are_built_args(args: &[Word]) -> bool
@@ -76,21 +78,33 @@ fn is_known_name(parts: &[Part]) -> bool
     }
 }
 
-/// Whether the first word is the plain name of a utility that is built, and the others need no expansion.
+/// Whether the first word, if there is one, is the plain name of a utility that is built.
 fn are_built_words(words: &[Word]) -> bool
     ensures { result ≡ are_built_words words.now }
 {
     match words {
         [name, args @ ..] => is_known_name(name.parts.as_slice()) && are_built_args(args),
-        [] => false,
+        [] => true,
     }
 }
 
-/// Whether no assignment stands before the words of a command, and no redirection beside them.
-fn is_bare(assigns: &[(Text, Word)], redirs: &[Redir]) -> bool
-    ensures { result ≡ is_bare assigns.now redirs.now }
+fn is_built_assign(assign: &(Text, Word)) -> bool
+    ensures { result ≡ is_built_assign assign.now }
 {
-    assigns.is_empty() && redirs.is_empty()
+    is_built_word(&assign.1)
+}
+
+fn are_built_assigns(assigns: &[(Text, Word)]) -> bool
+    ensures { result ≡ list_all is_built_assign assigns.now }
+{
+    assigns.iter().all(|assign| is_built_assign(assign))
+}
+
+/// Whether a simple command has no redirection.
+fn is_built_simple(assigns: &[(Text, Word)], words: &[Word], redirs: &[Redir]) -> bool
+    ensures { result ≡ is_built_simple assigns.now words.now redirs.now }
+{
+    are_built_assigns(assigns) && are_built_words(words) && redirs.is_empty()
 }
 
 fn is_built_command(command: &Command) -> bool
@@ -101,7 +115,7 @@ fn is_built_command(command: &Command) -> bool
             assigns,
             words,
             redirs,
-        } => is_bare(assigns.as_slice(), redirs.as_slice()) && are_built_words(words.as_slice()),
+        } => is_built_simple(assigns.as_slice(), words.as_slice(), redirs.as_slice()),
         _ => false,
     }
 }
@@ -145,8 +159,8 @@ fn are_built_pipelines(leaves: &[Pipeline]) -> bool
     leaves.iter().all(|pipeline| is_built_pipeline(pipeline))
 }
 
-/// Whether the whole script is of the forms that run: commands one after another, each with the plain name of a utility that is
-/// built in front, whose arguments are plain bytes, quoted ones, or both, without a pattern or a tilde outside quotes.
+/// Whether the whole script is of the forms that run: simple commands one after another, without redirections and command
+/// substitutions, each with the plain name of a utility that is built as its first word, if it has words.
 pub fn built(script: &Script) -> bool
     ensures { result ≡ is_built script.now }
 {

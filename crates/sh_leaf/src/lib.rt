@@ -1,11 +1,13 @@
 //! What a script means, and what one leaf of it does.
 #![tactic(auto)]
 
+mod assigning;
 mod command;
 mod forms;
 mod fuel;
 mod head;
 mod leaf;
+mod measuring;
 mod outcome;
 mod record;
 mod utility;

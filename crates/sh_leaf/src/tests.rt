@@ -2,11 +2,12 @@
 
 mod head;
 
+use crate::measuring::measure;
 use crate::{Fuel, Outcome, Record, do_leaf};
 use hs_text::{Text, TextList};
-use hs_view::{Fixed, Halt, Kept, SpentKind, Trace};
-use hs_world::{Effect, Entry, Fd, Kind, Limits, Loc, PathName, Tree, Value, World};
-use sh_syntax::{Command, Part, Pipeline, Script, Word};
+use hs_view::{Fixed, Halt, Kept, SpentKind, Trace, View};
+use hs_world::{Effect, Entry, Fd, Kind, Limits, Loc, PathName, Tree, Value, Var, World};
+use sh_syntax::{Command, ParamOp, Part, Pipeline, Script, Word};
 use sqlite_items::Items;
 use std::alloc::{AllocError, Global};
 use std::sync::Arc;
@@ -21,16 +22,20 @@ enum Step<'a> {
     Taken,
     /// A file has these bytes.
     Made(&'a str),
+    /// The variable `x` has this value, and is exported or not.
+    Set(&'a str, bool),
+    /// The variable `x` is gone.
+    Unset,
     Status(u8),
 }
 
-/// A command, whether there is a file `f`, and what the command does, the status last.
+/// A command, whether there is a file `f`, and what the command does.
 #[derive(Drop)]
 struct Row<'a> {
     words: &'a [&'a str],
     file: Option<&'a str>,
     steps: &'a [Step<'a>],
-    status: u8,
+    outcome: Outcome,
 }
 
 /// A command, what it may use up, and how it halts: with so many reads and effects.
@@ -44,20 +49,50 @@ struct Stop<'a> {
     effects: usize,
 }
 
+/// A text as a part: `$NAME` as a parameter, all else as plain bytes.
+fn part(alloc: Global, text: &str) -> Result<Part, AllocError> {
+    match text.as_bytes() {
+        [b'$', name @ ..] => Ok(Part::Param {
+            name: Text::from_slice(alloc, name)?,
+            op: ParamOp::Value,
+            colon: false,
+            word: None,
+        }),
+        bytes => Ok(Part::Plain(Text::from_slice(alloc, bytes)?)),
+    }
+}
+
 fn word(alloc: Global, text: &str) -> Result<Word, AllocError> {
     let mut parts = Items::new(alloc);
-    parts.push(Part::Plain(Text::from_slice(alloc, text.as_bytes())?))?;
+    parts.push(part(alloc, text)?)?;
     Ok(Word { parts })
 }
 
+/// The words of a command, and the value that `x` gets before it, if any, which is a first text `x=`.
+fn split<'a>(texts: &'a [&'a str]) -> (Option<&'a str>, &'a [&'a str]) {
+    match texts {
+        ["x=", value, rest @ ..] => (Some(*value), rest),
+        _ => (None, texts),
+    }
+}
+
+fn assigns_of(alloc: Global, value: Option<&str>) -> Result<Items<(Text, Word)>, AllocError> {
+    let mut assigns = Items::new(alloc);
+    if let Some(text) = value {
+        assigns.push((Text::from_slice(alloc, b"x")?, word(alloc, text)?))?;
+    }
+    Ok(assigns)
+}
+
 fn pipeline(alloc: Global, texts: &[&str]) -> Result<Pipeline, AllocError> {
+    let (value, texts) = split(texts);
     let mut words = Items::new(alloc);
     for text in texts {
         words.push(word(alloc, text)?)?;
     }
     let mut stages = Items::new(alloc);
     stages.push(Command::Simple {
-        assigns: Items::new(alloc),
+        assigns: assigns_of(alloc, value)?,
         words,
         redirs: Items::new(alloc),
     })?;
@@ -128,6 +163,22 @@ fn is_written(effect: &Effect, to: Fd, bytes: &str) -> bool {
     }
 }
 
+fn has_text(var: &Var, bytes: &str) -> bool {
+    matches!(&var.value, Some(text) if text.as_slice() == bytes.as_bytes())
+}
+
+fn is_set(effect: &Effect, bytes: &str, exported: bool) -> bool {
+    match effect {
+        Effect::SetVar(name, var) => {
+            name.as_slice() == b"x".as_slice()
+                && has_text(var, bytes)
+                && var.exported == exported
+                && !var.readonly
+        }
+        _ => false,
+    }
+}
+
 fn is_step(effect: &Effect, step: Step<'_>) -> bool {
     match step {
         Step::Out(bytes) => is_written(effect, Fd::One, bytes),
@@ -137,6 +188,9 @@ fn is_step(effect: &Effect, step: Step<'_>) -> bool {
             matches!(effect, Effect::Put(_, text) if text.as_slice() == bytes.as_bytes())
         }
         Step::Status(status) => matches!(effect, Effect::SetStatus(set) if *set == status),
+        Step::Set(bytes, exported) => is_set(effect, bytes, exported),
+        Step::Unset =>
+            matches!(effect, Effect::UnsetVar(name) if name.as_slice() == b"x".as_slice()),
     }
 }
 
@@ -150,7 +204,7 @@ fn are_steps(effects: &[Effect], steps: &[Step<'_>]) -> bool {
 }
 
 fn is_done(record: &Record, row: &Row<'_>) -> bool {
-    record.outcome() == Outcome::Status(row.status)
+    record.outcome() == row.outcome
         && record.number() == 0
         && record.turns() == 1
         && are_steps(record.effects().as_slice(), row.steps)
@@ -206,7 +260,7 @@ fn doing<'a>(
         words,
         file,
         steps,
-        status,
+        outcome: Outcome::Status(status),
     }
 }
 
@@ -318,6 +372,78 @@ fn each_utility_has_its_name(rt: HostRuntime) -> Result<(), Fail> {
         ),
     ];
     assert!(rt; do_all(rt.alloc(), &rows));
+    Ok(())
+}
+
+#[test]
+fn assignments_stay_or_are_lent(rt: HostRuntime) -> Result<(), Fail> {
+    let rows = [
+        doing(
+            &["x=", "1"],
+            None,
+            &[Step::Set("1", false), Step::Status(0)],
+            0,
+        ),
+        doing(
+            &["x=", "$?", "echo", "a"],
+            None,
+            &[
+                Step::Set("0", true),
+                Step::Out("a\n"),
+                Step::Unset,
+                Step::Status(0),
+            ],
+            0,
+        ),
+        doing(
+            &["echo", "$?", "$#", "$x"],
+            None,
+            &[Step::Out("0 0\n"), Step::Status(0)],
+            0,
+        ),
+        doing(&["$x"], None, &[Step::Status(0)], 0),
+    ];
+    assert!(rt; do_all(rt.alloc(), &rows));
+    Ok(())
+}
+
+/// So many texts of 63 bytes.
+fn texts(alloc: Global, count: usize) -> Result<TextList, AllocError> {
+    let mut texts = TextList::new(alloc);
+    for _ in 0..count {
+        texts.push(Text::from_slice(alloc, &[b'a'; 63])?)?;
+    }
+    Ok(texts)
+}
+
+/// The length of the text that is put in place of standard input, where one is.
+fn put_len(effects: &[Effect]) -> Option<usize> {
+    match effects {
+        [Effect::PushInput(text), Effect::PopInput] => Some(text.len()),
+        _ => None,
+    }
+}
+
+/// What measuring so many texts of 63 bytes puts in place of standard input.
+fn measured(alloc: Global, count: usize) -> Result<Option<usize>, AllocError> {
+    let texts = texts(alloc, count)?;
+    let mut view = View::new(alloc, Fixed::new(world(alloc, None)?), 4096);
+    let done = measure(alloc, &texts, &mut view);
+    let (base, trace) = view.into_trace();
+    drop(base);
+    let len = put_len(trace.effects().as_slice());
+    drop(trace);
+    match done {
+        Ok(()) => Ok(len),
+        Err(_) => Err(AllocError),
+    }
+}
+
+/// 16 of them are 1,024 bytes with their newlines.
+#[test]
+fn long_texts_are_measured(rt: HostRuntime) -> Result<(), Fail> {
+    assert_eq!(rt; measured(rt.alloc(), 16)?, None);
+    assert_eq!(rt; measured(rt.alloc(), 17)?, Some(1088));
     Ok(())
 }
 
@@ -441,7 +567,8 @@ fn all_stop(alloc: Global, rows: &[Stop<'_>]) -> bool {
     true
 }
 
-/// A pair of a location and a value has 64 bytes, and 16 for a path. What passes the limit is kept as the last.
+/// A pair of a location and a value has 64 bytes, and more for names, texts and paths. Each leaf reads the status and IFS first.
+/// What passes the limit is kept as the last.
 #[test]
 fn leaves_stop_where_too_little_is_left(rt: HostRuntime) -> Result<(), Fail> {
     let rows = [
@@ -458,23 +585,31 @@ fn leaves_stop_where_too_little_is_left(rt: HostRuntime) -> Result<(), Fail> {
             turns: 1,
             trace: 0,
             halt: Halt::Trace,
-            reads: 0,
+            reads: 1,
+            effects: 0,
+        },
+        Stop {
+            words: &["echo", "a"],
+            turns: 1,
+            trace: 64,
+            halt: Halt::Trace,
+            reads: 2,
+            effects: 0,
+        },
+        Stop {
+            words: &["echo", "a"],
+            turns: 1,
+            trace: 160,
+            halt: Halt::Trace,
+            reads: 2,
             effects: 1,
         },
         Stop {
             words: &["cat", "f"],
             turns: 1,
-            trace: 0,
+            trace: 160,
             halt: Halt::Trace,
-            reads: 1,
-            effects: 0,
-        },
-        Stop {
-            words: &["cat", "f"],
-            turns: 1,
-            trace: 80,
-            halt: Halt::Trace,
-            reads: 2,
+            reads: 3,
             effects: 0,
         },
     ];

@@ -1,63 +1,65 @@
-//! The fields of words in which nothing is expanded.
+//! What the words of a simple command become (POSIX.1-2017, XCU 2.6).
 
-ghost use Rattle.std.specs.Prelude.{◌≡◌, ◌++◌, IfOk, OnOk};
-ghost use Rattle.sh_leaf.specs.Fields.{field, fields, inner_bytes, inners, part_bytes};
+ghost use Rattle.std.specs.Prelude.{◌≡◌};
+ghost use Rattle.hs_view.specs.Acts.{Acts};
+ghost use Rattle.sh_leaf.specs.Expanding as spec;
 
-use hs_text::{Text, TextList};
-use sh_syntax::{Part, Word};
-use std::alloc::{AllocError, Global};
+use hs_text::{Fields, Text, TextList};
+use hs_view::{Base, Halt, View};
+use sh_expand::{Expanded, Expansion, expand};
+use sh_glob::paths;
+use sh_param::Context;
+use sh_syntax::Word;
+use std::alloc::Global;
 
-/// Puts a part inside double quotes behind a text.
-fn push_inner(text: &mut Text, part: &Part) -> Result<(), AllocError>
-    ensures { OnOk result (text.new ≡ text.old ++ inner_bytes part.now) }
+fn told(alloc: Global, expanded: Expanded) -> Result<Fields, Text>
+    ensures { result ≡ spec.fields_told expanded }
 {
-    match part {
-        Part::Plain(bytes) => text.extend(bytes.as_slice())?,
-        Part::Escaped(byte) => text.extend(&[*byte])?,
-        _ => {}
+    match expanded {
+        Expanded::Fields(fields) => Ok(fields),
+        Expanded::Wants(_) => Err(Text::new(alloc)),
+        Expanded::Error(why) => Err(why),
     }
-    Ok(())
 }
 
-fn push_inners(text: &mut Text, parts: &[Part]) -> Result<(), AllocError>
-    ensures { OnOk result (text.new ≡ text.old ++ inners parts.now) }
+/// The fields of words, or the message that says why there are none. `$?` gives the status.
+pub fn fields_of<B: Base>(
+    alloc: Global,
+    words: &[Word],
+    context: Context,
+    status: u8,
+    view: &mut View<B>,
+) -> Result<Result<Fields, Text>, Halt>
+    ensures { Acts B.seen (spec.fields_of words.now context status) view.old view.new result }
 {
-    for part in parts {
-        push_inner(text, part)?;
-    }
-    Ok(())
+    let mut going = Expansion::new(words, context, Some(status));
+    let expanded = expand(alloc, &mut going, None, view)?;
+    Ok(told(alloc, expanded))
 }
 
-fn push_part(text: &mut Text, part: &Part) -> Result<(), AllocError>
-    ensures { OnOk result (text.new ≡ text.old ++ part_bytes part.now) }
+fn paths_come<B: Base>(
+    alloc: Global,
+    fields: &Fields,
+    view: &mut View<B>,
+) -> Result<Result<TextList, Text>, Halt>
+    ensures { Acts B.seen (spec.paths_come fields.now) view.old view.new result }
 {
-    match part {
-        Part::Plain(bytes) => text.extend(bytes.as_slice())?,
-        Part::Single(bytes) => text.extend(bytes.as_slice())?,
-        Part::Escaped(byte) => text.extend(&[*byte])?,
-        Part::Double(parts) => push_inners(text, parts.as_slice())?,
-        _ => {}
-    }
-    Ok(())
+    let texts = paths(alloc, fields, view)?;
+    Ok(Ok(texts))
 }
 
-/// A word after quote removal (XCU 2.6.7).
-pub fn field(alloc: Global, word: &Word) -> Result<Text, AllocError>
-    ensures { IfOk result (λ text. text ≡ field word.now) }
+/// The texts of a command's words: expanded, split, with pathnames, and without quotes.
+pub fn texts_of<B: Base>(
+    alloc: Global,
+    words: &[Word],
+    status: u8,
+    view: &mut View<B>,
+) -> Result<Result<TextList, Text>, Halt>
+    ensures { Acts B.seen (spec.texts_of words.now status) view.old view.new result }
 {
-    let mut text = Text::new(alloc);
-    for part in word.parts.as_slice() {
-        push_part(&mut text, part)?;
+    let came = fields_of(alloc, words, Context::Command, status, view)?;
+    match came {
+        Ok(fields) => paths_come(alloc, &fields, view),
+        Err(why) => Ok(Err(why)),
     }
-    Ok(text)
-}
-
-pub fn fields(alloc: Global, words: &[Word]) -> Result<TextList, AllocError>
-    ensures { IfOk result (λ texts. texts ≡ fields words.now) }
-{
-    let mut texts = TextList::new(alloc);
-    for word in words {
-        texts.push(field(alloc, word)?)?;
-    }
-    Ok(texts)
 }
