@@ -22,6 +22,8 @@ mod Signs
 mod Elsewhere
 mod Places
 mod Final
+mod Folds
+mod Numbered
 mod Plainly
 mod Stepwise
 mod Stacked

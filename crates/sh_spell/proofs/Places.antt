@@ -1,25 +1,24 @@
 -- Where tokens are read that are written plainly, and what goes on behind them.
-use Rattle.std.proofs.Common.{◌≡◌, ℕ, Bool, true, false, not, ◌==◌, List, [], ◌∷◌, ◌++◌, None, refl, ap, sym, ◌∙◌, subst, inl, inr}
+use Rattle.std.proofs.Common.{◌≡◌, ℕ, ◌+◌, Bool, true, false, ◌==◌, List, [], ◌∷◌, ◌++◌, None, refl, ap, sym, ◌∙◌, subst, ◌⊎◌, inl, inr}
 use Rattle.std.proofs.lemmas.Bool.{eqb-true}
 use Rattle.sh_syntax.specs.declared.tree.RedirOp.{RedirOp}
 use Rattle.sh_lexer.specs.declared.token.Token.{Token}
 use Rattle.sh_lexer.specs.declared.token.Token.TheVariants as token
 use Rattle.sh_lexer.specs.declared.token.Op.{Op}
 use Rattle.sh_lexer.specs.declared.token.Op.TheVariants as op
-use Rattle.sh_lexer.specs.declared.token.Bit.{Bit}
 use Rattle.sh_lexer.specs.declared.token.Bit.TheVariants as bit
 use Rattle.sh_lexer.specs.declared.token.Opener.TheVariants as opener
 use Rattle.sh_lexer.specs.declared.token.End.{End}
 use Rattle.sh_lexer.specs.declared.token.End.TheVariants as end
 use Rattle.sh_lexer.specs.declared.token.Mode.{Mode}
 use Rattle.sh_lexer.specs.declared.token.Mode.TheVariants as mode
-use Rattle.sh_lexer.specs.Bytes.{skip, peel, special}
+use Rattle.sh_lexer.specs.Bytes.{skip, peel, piece, special}
 use Rattle.sh_lexer.specs.Modes.{Reads, as_seen, ends, ends_list, delimits as delimited_by, is_body, opens_pattern, parts_patterns, in_of_case, mode_after, inside}
 use Rattle.sh_lexer.specs.Lex as spec
-use Rattle.sh_lexer.specs.Lex.{Lexed, got, opens, done, bad, lex, opens_parenthesis}
+use Rattle.sh_lexer.specs.Lex.{Lexed, got, opens, done, bad, lex, sum, opens_parenthesis}
 use Rattle.sh_lexer.specs.Lexes.{Lexes, Source, source, found, ended, next, in_source}
 use Rattle.sh_spell.specs.Layout.{before, op_text}
-use Rattle.sh_spell.specs.Plain.{EndsWord, redirects, IsPlain, GoesOn, ArePlain}
+use Rattle.sh_spell.specs.Plain.{IsPlain, ArePlain}
 use Rattle.sh_spell.specs.Tidy.{IsBetween, IsInWord, IsKnown, IsUsual}
 use Rattle.sh_spell.proofs.Runs.{apart, Firm, peel-firm}
 use Rattle.sh_spell.proofs.Heads.{Heads, AfterEnd, IsClean, head, first, word_head, ends_sum}
@@ -29,7 +28,7 @@ use Rattle.sh_spell.proofs.Steps.{lex-between, inner}
 use Rattle.sh_spell.proofs.Openers.{OpensFrom, inside-is}
 use Rattle.sh_spell.proofs.Whole.{SameIf, IsLone, nil-done, done-opens-at, lex-at, lex-inner-at, heads-opens}
 use Rattle.sh_spell.proofs.Respelled.{step}
-use Rattle.sh_spell.proofs.Grammatical.{seen-known, opens-backquote}
+use Rattle.sh_spell.proofs.Grammatical.{seen-known, inside-known, opens-backquote}
 use Rattle.sh_spell.proofs.Signs.{IsSign, sign, pattern_bar, list_end}
 use Rattle.sh_spell.proofs.Elsewhere.{anywhere}
 
@@ -37,8 +36,7 @@ use Rattle.sh_spell.proofs.Elsewhere.{anywhere}
 pub record At (m : Mode) (ts : List Token) : Type 0 where
   pub text : List ℕ
   pub lexed : Lexes m (source text []) ts
-  pub flag : Bool
-  pub plain : ArePlain flag ts
+  pub plain : ArePlain ts
 
 -- no `(`
 abbrev pub NotOpen : Token → Type 0
@@ -69,25 +67,24 @@ found-source s t p q e = cc
 found-token : (s t : Token) (p q : Source) → found s p ≡ found t q → s ≡ t
 found-token s t p q e = cc
 
-plain-backquote : (n : Mode) (k : Token) (f : Bool) → Reads (token.Open opener.Backquote n) k → IsPlain f k → ⊥
-plain-backquote n k f as_seen p = p
+plain-backquote : (n : Mode) (k : Token) → Reads (token.Open opener.Backquote n) k → IsPlain k → ⊥
+plain-backquote n k as_seen p = p
 
-in-text : (m : Mode) (y : List ℕ) (l : Lexed) (s k : Token) (q : Source) (f : Bool) → IsKnown m → lex m y ≡ l → in_source [] l ≡ found s q → Reads s k → IsPlain f k → q ≡ source q.text []
-in-text m y (got t r) s k q f i h e r' p = subst (λ (x : Source). x ≡ source x.text []) (found-source t s (source r []) q e) refl
-in-text m y (opens t x r) s k q f i h e r' p =
-    let b = opens-backquote m y t x r i h in absurd (plain-backquote b.0 k f (subst (λ (z : Token). Reads z k) (sym (found-token t s _ q e) ∙ b.1) r') p)
-in-text m y done s k q f i h e r' p = absurd cc
-in-text m y (bad x) s k q f i h e r' p = absurd cc
+in-text : (m : Mode) (y : List ℕ) (l : Lexed) (s k : Token) (q : Source) → IsKnown m → lex m y ≡ l → in_source [] l ≡ found s q → Reads s k → IsPlain k → q ≡ source q.text []
+in-text m y (got t r) s k q i h e r' p = subst (λ (x : Source). x ≡ source x.text []) (found-source t s (source r []) q e) refl
+in-text m y (opens t x r) s k q i h e r' p =
+    let b = opens-backquote m y t x r i h in absurd (plain-backquote b.0 k (subst (λ (z : Token). Reads z k) (sym (found-token t s _ q e) ∙ b.1) r') p)
+in-text m y done s k q i h e r' p = absurd cc
+in-text m y (bad x) s k q i h e r' p = absurd cc
 
 pub after-source : {m : Mode} {k : Token} {ts : List Token} → IsKnown m → (a : At m (k ∷ ts)) → a.lexed.1 ≡ source a.lexed.1.text []
-after-source {m} {k} i a = in-text m a.text (lex m a.text) a.lexed.0 k a.lexed.1 a.flag i refl a.lexed.2 a.lexed.3 a.plain.0
+after-source {m} {k} i a = in-text m a.text (lex m a.text) a.lexed.0 k a.lexed.1 i refl a.lexed.2 a.lexed.3 a.plain.0
 
 abbrev pub tail : {m : Mode} {k : Token} {ts : List Token} → IsKnown m → At m (k ∷ ts) → At (mode_after m k) ts
 tail {m} {k} {ts} i a = record {
   text = a.lexed.1.text;
   lexed = subst (λ (q : Source). Lexes (mode_after m k) q ts) (after-source i a) a.lexed.4;
-  flag = redirects a.flag k;
-  plain = a.plain.2;
+  plain = a.plain.1;
 }
 
 -- what is known of the token
@@ -271,6 +268,12 @@ goes-behind {m} {ts} n c us i a o j h s r = record {
 
 -- ---- a backslash at the end of the text
 
+-- The word ends here.
+abbrev pub EndsWord : List Token → Type 0
+EndsWord [] = Unit {0}
+EndsWord (token.End end.Word m ∷ ts) = Unit {0}
+EndsWord ts = ⊥
+
 seen-end : (k : Token) (ts : List Token) → Reads (token.End end.Word mode.Command) k → EndsWord (k ∷ ts)
 seen-end k ts as_seen = tt
 seen-end k ts ends = tt
@@ -287,18 +290,153 @@ ends-at (mode.Arith n) (k ∷ ts) i l = let h : ended ≡ found l.0 l.1 = l.2 in
 ends-at mode.Body (k ∷ ts) i l = let h : ended ≡ found l.0 l.1 = l.2 in absurd cc
 ends-at m (k ∷ ts) i l = absurd i
 
-lone-at : (f : Bool) (x : List ℕ) (ts : List Token) → GoesOn f (token.Part (bit.Piece x)) ts → x ≡ 92 ∷ [] → EndsWord ts → not f ≡ true
-lone-at true x ts g e w = absurd (g e w)
-lone-at false x ts g e w = refl
+pub ends-there : {m : Mode} {ts : List Token} → IsInWord m → (a : At m ts) → a.text ≡ [] → EndsWord ts
+ends-there {m} {ts} w a e = ends-at m ts w (subst (λ (y : List ℕ). Lexes m (source y []) ts) e a.lexed)
 
--- No redirection's word has such a backslash.
-pub lone : {m : Mode} {ts : List Token} (b : Bit) (i : IsKnown m) → IsInWord (inside m) → (a : At m (token.Part b ∷ ts)) → IsLone (token.Part b) → (tail i a).text ≡ [] → not a.flag ≡ true
-lone {m} {ts} (bit.Piece x) i w a l e =
-    lone-at a.flag x ts a.plain.1 l (ends-at (inside m) ts w (subst (λ (y : List ℕ). Lexes (inside m) (source y []) ts) e (tail i a).lexed))
-lone (bit.Sum x n) i w a l e = absurd l
-lone (bit.Escaped x) i w a l e = absurd l
-lone (bit.Single x) i w a l e = absurd l
-lone (bit.Value x) i w a l e = absurd l
+-- Where another token than the end of a word is read, the text goes on.
+pub inward : {tight : Bool} {m n : Mode} {k : Token} {c : List ℕ} {ts us : List Token} → IsKnown m → (a : At m (k ∷ ts)) → (EndsWord (k ∷ ts) → ⊥) → GoesIf tight n a.text c us → Goes n a.text c us
+inward (inl i) a o g = tightly i a g
+inward (inr i) a o g = record { lexed = g.lexed; heads = g.heads; outers = g.outers; last = λ j e. absurd (o (ends-there i a e)) }
+
+-- Where the text has ended in front of the end of a word, it has ended behind it.
+word-ended-at : (m n : Mode) (t : List ℕ) (s : Token) (q : Source) → IsKnown m → t ≡ [] → next m (source t []) ≡ found s q → Reads s (token.End end.Word n) → q.text ≡ []
+unfolding spec.in_word spec.in_quotes spec.in_plain_braces spec.in_quoted_braces spec.in_arith spec.in_body peel
+word-ended-at m n t s q (inl i) e h d = absurd (nothing-found m t s q i e h)
+word-ended-at mode.Word n t s q (inr i) e h d =
+    let g : found (token.End end.Word mode.Command) (source [] []) ≡ found s q = sym (ap (λ (y : List ℕ). next mode.Word (source y [])) e) ∙ h in ap (λ (z : Source). z.text) (sym (found-source _ s _ q g))
+word-ended-at mode.Quotes n t s q (inr i) e h d = let g : ended ≡ found s q = sym (ap (λ (y : List ℕ). next mode.Quotes (source y [])) e) ∙ h in absurd cc
+word-ended-at (mode.Braces true) n t s q (inr i) e h d = let g : ended ≡ found s q = sym (ap (λ (y : List ℕ). next (mode.Braces true) (source y [])) e) ∙ h in absurd cc
+word-ended-at (mode.Braces false) n t s q (inr i) e h d = let g : ended ≡ found s q = sym (ap (λ (y : List ℕ). next (mode.Braces false) (source y [])) e) ∙ h in absurd cc
+word-ended-at (mode.Arith k) n t s q (inr i) e h d = let g : ended ≡ found s q = sym (ap (λ (y : List ℕ). next (mode.Arith k) (source y [])) e) ∙ h in absurd cc
+word-ended-at mode.Body n t s q (inr i) e h d = let g : ended ≡ found s q = sym (ap (λ (y : List ℕ). next mode.Body (source y [])) e) ∙ h in absurd cc
+word-ended-at m n t s q (inr i) e h d = absurd i
+
+pub word-ended : {m n : Mode} {ts : List Token} (i : IsKnown m) (a : At m (token.End end.Word n ∷ ts)) → a.text ≡ [] → (tail i a).text ≡ []
+word-ended {m} {n} i a e = word-ended-at m n a.text a.lexed.0 a.lexed.1 i e a.lexed.2 a.lexed.3
+
+pub none-left : {m : Mode} (ts : List Token) → IsBetween m → (a : At m ts) → a.text ≡ [] → ts ≡ []
+none-left [] i a e = refl
+none-left (k ∷ ts) i a e = absurd (text-follows i a e)
+
+-- ---- a backslash that stands for itself in a word
+
+-- something that may go on where the text begins with a `(` or doesn't
+abbrev mark_text : Bool → List ℕ
+mark_text true = 40 ∷ 32 ∷ []
+mark_text false = 59 ∷ 32 ∷ []
+
+abbrev mark_tokens : Bool → List Token
+mark_tokens true = token.Operator op.Open ∷ []
+mark_tokens false = token.Operator op.Semi ∷ []
+
+marked : (n : Mode) (t : List ℕ) (v : Bool) → IsBetween n → opens_parenthesis (skip t) ≡ v → GoesIf false n t (mark_text v) (mark_tokens v)
+unfolding skip
+marked n t true i e = record {
+  lexed = sign n op.Open [] [] i tt (ap (in_source []) (nil-done mode.Command tt));
+  heads = heads-closed n t (40 ∷ 32 ∷ []) i e (apart 40 (32 ∷ []) refl);
+  outers = tt;
+  last = λ j. absurd cc;
+}
+marked n t false i e = record {
+  lexed = sign n op.Semi [] [] i tt (ap (in_source []) (nil-done mode.Command tt));
+  heads = heads-closed n t (59 ∷ 32 ∷ []) i e (apart 59 (32 ∷ []) refl);
+  outers = tt;
+  last = λ j. absurd cc;
+}
+
+abbrev IsWordEnd : Token → Type 0
+IsWordEnd (token.End e m) = Unit {0}
+IsWordEnd t = ⊥
+
+reads-end : (n : Mode) (s : Token) → Reads s (token.End end.Word n) → IsWordEnd s
+reads-end n s as_seen = tt
+reads-end n s ends = tt
+
+abbrev IsPiece : Token → Type 0
+IsPiece (token.Part (bit.Piece x)) = Unit {0}
+IsPiece t = ⊥
+
+reads-piece : (x : List ℕ) (s : Token) → Reads s (token.Part (bit.Piece x)) → IsPiece s
+reads-piece x s as_seen = tt
+
+-- a blank and what goes on are read as no word's end but in a word
+blank-word : (m n : Mode) (v : Bool) (us : List Token) → IsKnown m → Lexes m (source (32 ∷ mark_text v) []) (token.End end.Word n ∷ us) → m ≡ mode.Word
+unfolding skip peel special piece sum spec.between spec.in_word spec.in_quotes spec.in_plain_braces spec.in_quoted_braces spec.in_arith spec.in_body spec.bit_at spec.special_at spec.text_if
+blank-word mode.Word n v us i l = refl
+blank-word mode.Command n true us i l = absurd (subst IsWordEnd (sym (found-token (token.Operator op.Open) l.0 _ l.1 l.2)) (reads-end n l.0 l.3))
+blank-word mode.Command n false us i l = absurd (subst IsWordEnd (sym (found-token (token.Operator op.Semi) l.0 _ l.1 l.2)) (reads-end n l.0 l.3))
+blank-word mode.Prefix n true us i l = absurd (subst IsWordEnd (sym (found-token (token.Operator op.Open) l.0 _ l.1 l.2)) (reads-end n l.0 l.3))
+blank-word mode.Prefix n false us i l = absurd (subst IsWordEnd (sym (found-token (token.Operator op.Semi) l.0 _ l.1 l.2)) (reads-end n l.0 l.3))
+blank-word mode.Arguments n true us i l = absurd (subst IsWordEnd (sym (found-token (token.Operator op.Open) l.0 _ l.1 l.2)) (reads-end n l.0 l.3))
+blank-word mode.Arguments n false us i l = absurd (subst IsWordEnd (sym (found-token (token.Operator op.Semi) l.0 _ l.1 l.2)) (reads-end n l.0 l.3))
+blank-word mode.Pattern n true us i l = absurd (subst IsWordEnd (sym (found-token (token.Operator op.Open) l.0 _ l.1 l.2)) (reads-end n l.0 l.3))
+blank-word mode.Pattern n false us i l = absurd (subst IsWordEnd (sym (found-token (token.Operator op.Semi) l.0 _ l.1 l.2)) (reads-end n l.0 l.3))
+blank-word mode.Quotes n true us i l = absurd (subst IsWordEnd (sym (found-token (token.Part (bit.Piece (32 ∷ 40 ∷ 32 ∷ []))) l.0 _ l.1 l.2)) (reads-end n l.0 l.3))
+blank-word mode.Quotes n false us i l = absurd (subst IsWordEnd (sym (found-token (token.Part (bit.Piece (32 ∷ 59 ∷ 32 ∷ []))) l.0 _ l.1 l.2)) (reads-end n l.0 l.3))
+blank-word (mode.Braces true) n true us i l = absurd (subst IsWordEnd (sym (found-token (token.Part (bit.Piece (32 ∷ 40 ∷ 32 ∷ []))) l.0 _ l.1 l.2)) (reads-end n l.0 l.3))
+blank-word (mode.Braces true) n false us i l = absurd (subst IsWordEnd (sym (found-token (token.Part (bit.Piece (32 ∷ 59 ∷ 32 ∷ []))) l.0 _ l.1 l.2)) (reads-end n l.0 l.3))
+blank-word (mode.Braces false) n true us i l = absurd (subst IsWordEnd (sym (found-token (token.Part (bit.Piece (32 ∷ 40 ∷ 32 ∷ []))) l.0 _ l.1 l.2)) (reads-end n l.0 l.3))
+blank-word (mode.Braces false) n false us i l = absurd (subst IsWordEnd (sym (found-token (token.Part (bit.Piece (32 ∷ 59 ∷ 32 ∷ []))) l.0 _ l.1 l.2)) (reads-end n l.0 l.3))
+blank-word (mode.Arith k) n true us i l = absurd (subst IsWordEnd (sym (found-token (token.Part (bit.Sum (32 ∷ 40 ∷ 32 ∷ []) (k + 1))) l.0 _ l.1 l.2)) (reads-end n l.0 l.3))
+blank-word (mode.Arith k) n false us i l = absurd (subst IsWordEnd (sym (found-token (token.Part (bit.Sum (32 ∷ 59 ∷ 32 ∷ []) k)) l.0 _ l.1 l.2)) (reads-end n l.0 l.3))
+blank-word mode.Body n true us i l = absurd (subst IsWordEnd (sym (found-token (token.Part (bit.Piece (32 ∷ 40 ∷ 32 ∷ []))) l.0 _ l.1 l.2)) (reads-end n l.0 l.3))
+blank-word mode.Body n false us i l = absurd (subst IsWordEnd (sym (found-token (token.Part (bit.Piece (32 ∷ 59 ∷ 32 ∷ []))) l.0 _ l.1 l.2)) (reads-end n l.0 l.3))
+blank-word m n v us (inl i) l = absurd i
+blank-word m n v us (inr i) l = absurd i
+
+-- A backslash in front of a blank is no piece of a word.
+escapes : (m : Mode) (x : List ℕ) (v : Bool) (us : List Token) → IsKnown m → inside m ≡ mode.Word → Lexes m (source (92 ∷ 32 ∷ mark_text v) []) (token.Part (bit.Piece x) ∷ us) → ⊥
+unfolding skip peel special piece spec.between spec.in_word spec.bit_at spec.special_at
+escapes mode.Command x true us i w l = subst IsPiece (sym (found-token (token.Part (bit.Escaped 32)) l.0 _ l.1 l.2)) (reads-piece x l.0 l.3)
+escapes mode.Command x false us i w l = subst IsPiece (sym (found-token (token.Part (bit.Escaped 32)) l.0 _ l.1 l.2)) (reads-piece x l.0 l.3)
+escapes mode.Prefix x true us i w l = subst IsPiece (sym (found-token (token.Part (bit.Escaped 32)) l.0 _ l.1 l.2)) (reads-piece x l.0 l.3)
+escapes mode.Prefix x false us i w l = subst IsPiece (sym (found-token (token.Part (bit.Escaped 32)) l.0 _ l.1 l.2)) (reads-piece x l.0 l.3)
+escapes mode.Arguments x true us i w l = subst IsPiece (sym (found-token (token.Part (bit.Escaped 32)) l.0 _ l.1 l.2)) (reads-piece x l.0 l.3)
+escapes mode.Arguments x false us i w l = subst IsPiece (sym (found-token (token.Part (bit.Escaped 32)) l.0 _ l.1 l.2)) (reads-piece x l.0 l.3)
+escapes mode.Pattern x true us i w l = subst IsPiece (sym (found-token (token.Part (bit.Escaped 32)) l.0 _ l.1 l.2)) (reads-piece x l.0 l.3)
+escapes mode.Pattern x false us i w l = subst IsPiece (sym (found-token (token.Part (bit.Escaped 32)) l.0 _ l.1 l.2)) (reads-piece x l.0 l.3)
+escapes mode.Word x true us i w l = subst IsPiece (sym (found-token (token.Part (bit.Escaped 32)) l.0 _ l.1 l.2)) (reads-piece x l.0 l.3)
+escapes mode.Word x false us i w l = subst IsPiece (sym (found-token (token.Part (bit.Escaped 32)) l.0 _ l.1 l.2)) (reads-piece x l.0 l.3)
+escapes mode.Quotes x v us i w l = cc
+escapes (mode.Braces q) x v us i w l = cc
+escapes (mode.Arith n) x v us i w l = cc
+escapes mode.Body x v us i w l = cc
+escapes m x v us (inl i) w l = absurd i
+escapes m x v us (inr i) w l = absurd i
+
+-- The word ends here, and tokens between words follow.
+abbrev pub Closes : List Token → Type 0
+Closes (token.End end.Word n ∷ ts) = IsBetween n
+Closes ts = ⊥
+
+behind-word : {m n : Mode} {ts : List Token} (v : Bool) (i : IsKnown m) (a : At m (token.End end.Word n ∷ ts)) → IsBetween n → opens_parenthesis (skip (tail i a).text) ≡ v →
+    GoesIf false m a.text (32 ∷ mark_text v) (token.End end.Word n ∷ mark_tokens v)
+behind-word {n = n} true i a b e = put-end i a n b (mark_text true) (mark_tokens true) (marked n (tail i a).text true b e)
+behind-word {n = n} false i a b e = put-end i a n b (mark_text false) (mark_tokens false) (marked n (tail i a).text false b e)
+
+-- Words end in no quotes.
+pub in-word : {m : Mode} (ts : List Token) (i : IsKnown m) (a : At m ts) → Closes ts → m ≡ mode.Word
+in-word [] i a b = absurd b
+in-word {m} (token.End end.Word n ∷ ts) i a b = let v = opens_parenthesis (skip (tail i a).text) in blank-word m n v (mark_tokens v) i (behind-word v i a b refl).lexed
+in-word (k ∷ ts) i a b = absurd b
+
+none-or : (t : List ℕ) → (t ≡ []) ⊎ (t ≡ [] → ⊥)
+none-or [] = inl refl
+none-or (b ∷ t) = inr (λ e. cc)
+
+lone-in : {m : Mode} (ts : List Token) (x : List ℕ) (i : IsKnown m) (a : At m (token.Part (bit.Piece x) ∷ ts)) → x ≡ 92 ∷ [] → Closes ts → ((tail i a).text ≡ [] → ⊥) → ⊥
+lone-in [] x i a e b z = absurd b
+lone-in {m} (token.End end.Word n ∷ ts) x i a e b z =
+    let k = inside-known m i in
+    let t = tail i a in
+    let v = opens_parenthesis (skip (tail k t).text) in
+    let g = put-if i a tt (32 ∷ mark_text v) (token.End end.Word n ∷ mark_tokens v) (behind-word v k t b refl) (λ l q. absurd (z q)) in
+    escapes m x v (token.End end.Word n ∷ mark_tokens v) i (in-word (token.End end.Word n ∷ ts) k t b) (subst (λ (y : List ℕ). Lexes m (source (y ++ 32 ∷ mark_text v) []) (token.Part (bit.Piece x) ∷ token.End end.Word n ∷ mark_tokens v)) e g.lexed)
+lone-in (k ∷ ts) x i a e b z = absurd b
+
+-- Such a backslash at the end of a word ends the text.
+pub lone-ends : {m : Mode} (ts : List Token) (x : List ℕ) (i : IsKnown m) (a : At m (token.Part (bit.Piece x) ∷ ts)) → x ≡ 92 ∷ [] → Closes ts → (tail i a).text ≡ []
+lone-ends ts x i a e b = elim (none-or (tail i a).text) [ inl h ↦ h | inr z ↦ absurd (lone-in ts x i a e b z) ]
 
 -- no `(` at the front of what is written of a token
 pub shut-by : {tight : Bool} {m : Mode} {k : Token} {ts us : List Token} (c : List ℕ) → IsBetween m → (a : At m (k ∷ ts)) → NotOpen k → GoesIf tight m a.text c us → opens_parenthesis (skip c) ≡ false

@@ -1,11 +1,12 @@
 -- What is written of a script that was read from plain tokens is read as tokens again from which the grammar derives the script.
-use Rattle.std.proofs.Common.{◌≡◌, ℕ, zero, suc, pred, ◌+◌, ◌*◌, ◌≤◌, Bool, true, false, not, List, [], ◌∷◌, ◌++◌, length, Option, Some, None, refl, ap, sym, ◌∙◌, subst, ◌⊎◌, inl, inr, arith, append_assoc, length-append}
+use Rattle.std.proofs.Common.{◌≡◌, ℕ, zero, suc, pred, ◌+◌, ◌*◌, ◌≤◌, Bool, true, false, not, List, [], ◌∷◌, ◌++◌, Option, Some, None, refl, ap, sym, ◌∙◌, subst, ◌⊎◌, inl, inr, arith, append_assoc}
 use Rattle.std.specs.Prelude.{map, slice_get, option_map}
 use Rattle.std.proofs.lemmas.List.{length-set}
 use Rattle.std.proofs.lemmas.Option.{slice_get-map}
 use Rattle.sh_syntax.specs.declared.tree.Part.{Part, out-Part}
 use Rattle.sh_syntax.specs.declared.tree.Part.TheVariants as part
 use Rattle.sh_syntax.specs.declared.tree.Part.TheOpen.{Part-F}
+use Rattle.sh_syntax.specs.declared.tree.Part.TheOpen as open_part
 use Rattle.sh_syntax.specs.declared.tree.Part.TheViews.{outs-Plain, outs-Single, outs-Escaped, outs-Param, outs-Double, outs-Arith, outs-Command}
 use Rattle.sh_syntax.specs.declared.tree.ParamOp.{ParamOp}
 use Rattle.sh_syntax.specs.declared.tree.ParamOp.TheVariants as param_op
@@ -46,8 +47,8 @@ use Rattle.sh_grammar.specs.Grammar as g
 use Rattle.sh_grammar.specs.Spells.{Spells}
 use Rattle.sh_grammar.specs.Grammar.{NotEmpty, HasElement, part_of, param_of, no_simple, with_assign, with_word, with_redir, mode_before, simple, loop_op, join_op, MayOpen, Parts, Bodies, Newlines, Separator, MaySeparate, OneRedir, Redirs, Elements, ForWords, Patterns, OneArm, Arms, Branches, MoreBranches, OneCompound, OneCommand, Stages, MoreStages, OnePipeline, ListRest, InList, MayBeList, ParsesWithin, max_nesting}
 use Rattle.sh_spell.specs.Layout.{written}
-use Rattle.sh_spell.specs.Plain.{IsPlain, ArePlain}
-use Rattle.sh_spell.specs.Scripts.{each, operator, opening, ending, begins_in_name, is_empty, needs_braces, value_text, opened_with, word_with, redir_with, assign_with, listed, elif_with, branches_with, else_with, patterns_with, arm_with, compound_with, body_with, body_of, command_with, piped, stages_with, leaf_with, leaf_of, join_with, and_or_with, next_item, items_with, part_text, list_text, deepest, script_text}
+use Rattle.sh_spell.specs.Plain.{ArePlain}
+use Rattle.sh_spell.specs.Scripts.{each, operator, opening, ending, begins_in_name, is_empty, needs_braces, value_text, opened_with, word_with, redir_with, listed, elif_with, branches_with, else_with, patterns_with, arm_with, or_first, parts_list, words_list, assigns_list, ends_lone, goes_first, going, waiting, words_with, assigns_with, compound_with, body_with, body_of, command_with, piped, stages_with, leaf_with, leaf_of, join_with, and_or_with, next_item, items_with, part_text, list_text, deepest, script_text}
 use Rattle.sh_spell.specs.Tidy.{IsBetween, IsInWord, IsKnown}
 use Rattle.sh_spell.proofs.Cases.{takes_if, passes_if}
 use Rattle.sh_spell.proofs.Runs.{apart, Firm, Stop}
@@ -65,7 +66,8 @@ use Rattle.sh_spell.proofs.Final.{From}
 use Rattle.sh_spell.proofs.Elsewhere.{IsWordly, in_prefix}
 use Rattle.sh_spell.proofs.Signs.{IsReserved, sign, reserved, in_of, esac}
 use Rattle.sh_spell.proofs.Whole.{IsLone}
-use Rattle.sh_spell.proofs.Places.{At, Goes, GoesIf, loose, tightly, lone, NotOpen, StopsAt, Ends, Ready, tail, put, put-if, put-end, seen-is, meets, goes-on, goes-behind, shut-by, ready-redirect, ends-stops, some, heads-dollar, lex-dollar, ready-nil, ready-sign, ready-bar, ready-list, heads-closed}
+use Rattle.sh_spell.proofs.Numbered.{nil-right, Begins, begins-below, begins-in, moved, same-length, Least, least-lower, least-or, goes-before, lone-waits, going-more, waiting-more, going-none, waiting-all, parted, settled, fewer-next, split, through, next-none, plain-lone, lone-plain, not-lone}
+use Rattle.sh_spell.proofs.Places.{At, Goes, GoesIf, loose, tightly, inward, EndsWord, ends-there, word-ended, none-left, Closes, in-word, lone-ends, NotOpen, StopsAt, Ends, Ready, tail, put, put-if, put-end, seen-is, meets, goes-on, goes-behind, shut-by, ready-redirect, ends-stops, some, heads-dollar, lex-dollar, ready-nil, ready-sign, ready-bar, ready-list, heads-closed}
 
 -- ---- what is written
 
@@ -135,10 +137,6 @@ text-body e f n x c h =
     (slice_get-map (filled_command e.heres) e.script.bodies n ∙ ap (option_map (filled_command e.heres)) h)
 
 -- ---- lists
-
-nil-right : {A : Type 0} (xs : List A) → xs ≡ xs ++ []
-nil-right [] = refl
-nil-right (x ∷ xs) = ap (λ ys. x ∷ ys) (nil-right xs)
 
 cons-nil : {A : Type 0} (x : A) (xs : List A) → x ∷ xs ≡ [] → ⊥
 cons-nil x xs e = cc
@@ -391,15 +389,16 @@ length-list t n is = length-set t.script.lists n _
 
 -- ---- what is known of each thing that is read
 
-record PartsGo (e : Draft) (f d : ℕ) (s : Draft) (ps : List Part) (rest : List Token) (qs : List Part) (s' : Draft) (m : Mode) (t : List ℕ) (flag : Bool) : Type 0 where
+record PartsGo (e : Draft) (f d : ℕ) (s : Draft) (ps : List Part) (rest : List Token) (qs : List Part) (s' : Draft) (m : Mode) (t : List ℕ) (tight : Bool) : Type 0 where
   new : List Part
   is : qs ≡ ps ++ new
   due : s'.due ≡ []
   way : Mode
   known : IsKnown way
   there : At way rest
-  stays : flag ≡ true → there.flag ≡ true
-  go : (c : List ℕ) (us : List Token) → GoesIf (not there.flag) way there.text c us → (ts : List Token) × Parts d s ps ts us qs s' × GoesIf (not flag) m t (each (P e f) new c) ts
+  -- where the parts end in a backslash that stands for itself, the text has ended
+  lone : ends_lone qs ≡ true → Closes rest → there.text ≡ []
+  go : (c : List ℕ) (us : List Token) → GoesIf tight way there.text c us → (ts : List Token) × Parts d s ps ts us qs s' × GoesIf tight m t (each (P e f) new c) ts
 
 record RedirsGo (e : Draft) (f d : ℕ) (s : Draft) (rs : List Redir) (from rest : List Token) (rs' : List Redir) (s' : Draft) : Type 0 where
   new : List Redir
@@ -418,8 +417,20 @@ record Stands (n m : Mode) (N : Type 0) (x : List ℕ) (ts : List Token) : Type 
   shut : opens_parenthesis (skip x) ≡ false
   firm : Firm x
 
--- Redirections are written first, where the command begins with the draft s0.
-record ElementsGo (e : Draft) (f d : ℕ) (s0 s : Draft) (c : Simple) (rest : List Token) (c' : Simple) (s' : Draft) (m : Mode) (from : List Token) : Type 0 where
+-- A redirection that doesn't end in a backslash, written in front of what it may be written in front of, in front of rest too.
+record RedirGo (e : Draft) (f d : ℕ) (rest : List Token) (s : Draft) (fd : ℕ) (o : RedirOp) (ps : List Part) (t : Draft) : Type 0 where
+  begins : Begins s t (parts_list ps)
+  go : StopsAt rest → (n : Mode) → IsBetween n → (c : List ℕ) (us : List Token) → Lexes n (source c []) us → opens_parenthesis (skip c) ≡ false → Firm c →
+      (ts : List Token) × Parts d s [] ts (token.End end.Word n ∷ us) ps t × Ready (redir_with (P e f) (redir fd o ps) c) (token.Redirect fd o ∷ ts)
+
+-- redirections one after another
+data Early : Draft → ℕ → ℕ → List Token → Draft → List Redir → Draft → Type 0 where
+  no_early : {e : Draft} {f d : ℕ} {rest : List Token} {s : Draft} → Early e f d rest s [] s
+  one_early : {e : Draft} {f d : ℕ} {rest : List Token} {s t u : Draft} {fd : ℕ} {o : RedirOp} {ps : List Part} {rs : List Redir} →
+      RedirGo e f d rest s fd o ps t → NotEmpty ps → Early e f d rest t rs u → Early e f d rest s (redir fd o ps ∷ rs) u
+
+-- What is read from the draft s on is written from the draft mid on, behind the redirections that stand in front.
+record ElementsGo (e : Draft) (f d : ℕ) (s : Draft) (c : Simple) (rest : List Token) (c' : Simple) (s' : Draft) (m : Mode) (from : List Token) : Type 0 where
   assigns : List (List ℕ × Word)
   words : List Word
   redirs : List Redir
@@ -430,11 +441,14 @@ record ElementsGo (e : Draft) (f d : ℕ) (s0 s : Draft) (c : Simple) (rest : Li
   way : Mode
   between : IsBetween way
   there : At way rest
+  least : Least s (assigns_list assigns words)
+  mid : Draft
+  early : Early e f d rest s (going (assigns_list assigns words) redirs) mid
+  ends : NotEmpty (going (assigns_list assigns words) redirs) → (x : List ℕ) → Ends from x
   go : (rs : List Redir) (k : List ℕ) (us : List Token) → Ready k us → Ends rest k →
-      (ts : List Token) × Elements d s (simple_of c.assigns c.words rs) ts us (simple_of (c.assigns ++ assigns) (c.words ++ words) rs) s'
-      × Stands (mode_before c.words) m (redirs ≡ []) (each (assign_with (P e f)) assigns (each (word_with (P e f)) words k)) ts × Ends from (each (assign_with (P e f)) assigns (each (word_with (P e f)) words k))
-  ahead : (rs : List Redir) (x : List ℕ) (us vs : List Token) (q : Simple) (u : Draft) → StopsAt rest → Elements d s0 (simple_of [] [] (rs ++ redirs)) us vs q u → Lexes mode.Prefix (source x []) us → opens_parenthesis (skip x) ≡ false → Firm x →
-      (ts : List Token) × Elements d s0 (simple_of [] [] rs) ts vs q u × Stands mode.Prefix mode.Command (redirs ≡ [] → ⊥) (each (redir_with (P e f)) redirs x) ts
+      (ts : List Token) × Elements d mid (simple_of c.assigns c.words rs) ts us (simple_of (c.assigns ++ assigns) (c.words ++ words) (rs ++ waiting (assigns_list assigns words) redirs)) s'
+      × Stands (mode_before c.words) m (going (assigns_list assigns words) redirs ≡ []) (assigns_with (P e f) assigns words (waiting (assigns_list assigns words) redirs) k) ts
+      × Ends from (assigns_with (P e f) assigns words (waiting (assigns_list assigns words) redirs) k)
 
 record ForWordsGo (e : Draft) (f d : ℕ) (s : Draft) (ws : List Word) (rest : List Token) (vs : List Word) (s' : Draft) (t : List ℕ) : Type 0 where
   new : List Word
@@ -583,31 +597,6 @@ numbered_list {e} (suc f) n {is = is} q l fr h k =
           (y.0, y.1, subst (λ (o : List ℕ). Lexes mode.Command (source o []) y.0) (sym (text-list (filled e) f n is c (final.list_at n q is (frame.in_list l) fr))) y.2);
     }
 
--- ---- words of redirections, in which no list is
-
-free : {d : ℕ} {s t : Draft} {ps qs : List Part} {ts rest : List Token} → Parts d s ps ts rest qs t → ArePlain true ts → (t ≡ s) × ArePlain true rest
-free g.parts_end p = (refl, p)
-free (g.one_bit r) p = free r p.2
-free (g.param r) p = free r p.2
-free (g.double q r) p = let x = free q p.2 in let y = free r x.1.2 in (y.0 ∙ x.0, y.1)
-free (g.braces q r) p = let x = free q p.2 in let y = free r x.1.2 in (y.0 ∙ x.0, y.1)
-free (g.arith q r) p = let x = free q p.2 in let y = free r x.1.2 in (y.0 ∙ x.0, y.1)
-free (g.substitution l r) p = absurd p.0
-free (g.backquotes l r) p = absurd p.0
-
--- Parts in which no list begins may stand elsewhere.
-moved : {d : ℕ} {s t : Draft} {ps qs : List Part} {ts rest : List Token} → Parts d s ps ts rest qs t → length t.script.lists ≤ length s.script.lists → (u : Draft) → Parts d u ps ts rest qs u
-moved g.parts_end h u = g.parts_end
-moved (g.one_bit {b = b} r) h u = g.one_bit {b = b} (moved r h u)
-moved (g.param r) h u = g.param (moved r h u)
-moved (g.double q r) h u = let a = (frame.parts q).lists.longer in let b = (frame.parts r).lists.longer in g.double (moved q (omega (arith, a, b, h)) u) (moved r (omega (arith, a, b, h)) u)
-moved (g.braces q r) h u = let a = (frame.parts q).lists.longer in let b = (frame.parts r).lists.longer in g.braces (moved q (omega (arith, a, b, h)) u) (moved r (omega (arith, a, b, h)) u)
-moved (g.arith q r) h u = let a = (frame.parts q).lists.longer in let b = (frame.parts r).lists.longer in g.arith (moved q (omega (arith, a, b, h)) u) (moved r (omega (arith, a, b, h)) u)
-moved (g.substitution {s = s} {t = t} {is = is} l r) h u =
-    let a = (frame.may_be_list l).lists.longer in let b = (frame.parts r).lists.longer in absurd (omega (arith, a, b, h, length-append s.script.lists (record { items = [] } ∷ []), length-list t (next_list s) is))
-moved (g.backquotes {s = s} {t = t} {is = is} l r) h u =
-    let a = (frame.may_be_list l).lists.longer in let b = (frame.parts r).lists.longer in absurd (omega (arith, a, b, h, length-append s.script.lists (record { items = [] } ∷ []), length-list t (next_list s) is))
-
 -- ---- where a simple command has been read so far
 
 -- Nothing has been read of it, or the mode is the one behind a redirection.
@@ -675,11 +664,6 @@ tightly-at : {tight : Bool} {m n : Mode} {c : List ℕ} {us : List Token} (ts : 
 tightly-at [] b i a g = absurd b
 tightly-at (k ∷ ts) b i a g = tightly i a g
 
--- In the word of a redirection is no list.
-no_list : (f : Bool) (n : Mode) → IsPlain f (token.Open opener.Command n) → f ≡ true → ⊥
-no_list true n p e = p
-no_list false n p e = cc
-
 -- no `(` at the front of a word
 shut-word : {tight : Bool} {m : Mode} {ts us : List Token} {c : List ℕ} (i : IsBetween m) (a : At m ts) → Starts ts → GoesIf tight m a.text c us → opens_parenthesis (skip c) ≡ false
 shut-word {ts = []} i a b h = absurd b
@@ -687,8 +671,8 @@ shut-word {ts = k ∷ ts} {c = c} i a b h = shut-by c i a (wordly-shut k b) h
 
 -- ---- one thing more
 
-double-go : {e : Draft} {f d : ℕ} {s t s' : Draft} {ps qs inner : List Part} {m n : Mode} {ts mid rest : List Token} (i : IsKnown m) (a : At m (token.Open opener.Double n ∷ ts))
-    (x : PartsGo e f d s [] (token.End end.Quote n ∷ mid) inner t mode.Quotes (tail i a).text (tail i a).flag) → PartsGo e (suc f) d t (ps ++ part.Double inner ∷ []) rest qs s' n (tail x.known x.there).text (tail x.known x.there).flag → PartsGo e (suc f) d s ps rest qs s' m a.text a.flag
+double-go : {e : Draft} {f d : ℕ} {s t s' : Draft} {ps qs inner : List Part} {m n : Mode} {ts mid rest : List Token} {tight : Bool} (i : IsKnown m) (a : At m (token.Open opener.Double n ∷ ts))
+    (x : PartsGo e f d s [] (token.End end.Quote n ∷ mid) inner t mode.Quotes (tail i a).text true) → PartsGo e (suc f) d t (ps ++ part.Double inner ∷ []) rest qs s' n (tail x.known x.there).text tight → PartsGo e (suc f) d s ps rest qs s' m a.text tight
 double-go {e} {f} {ps = ps} {inner = inner} {m = m} {n = n} i a x y = record {
   new = part.Double inner ∷ y.new;
   is = y.is ∙ append_assoc ps (part.Double inner ∷ []) y.new;
@@ -696,18 +680,18 @@ double-go {e} {f} {ps = ps} {inner = inner} {m = m} {n = n} i a x y = record {
   way = y.way;
   known = y.known;
   there = y.there;
-  stays = λ q. y.stays (x.stays q);
+  lone = y.lone;
   go = λ c us h.
       let v = y.go c us h in
       let k = each (P e (suc f)) y.new c in
-      let w = x.go (written (token.End end.Quote n) k) (token.End end.Quote n ∷ v.0) (put-if x.known x.there tt k v.0 v.2 (λ l q. absurd l)) in
+      let w = x.go (written (token.End end.Quote n) k) (token.End end.Quote n ∷ v.0) (inward x.known x.there (λ q. q) (put-if x.known x.there tt k v.0 v.2 (λ l q. absurd l))) in
       let q = ap (λ (z : List Part). opening opener.Double (each (P e f) z (ending end.Quote k))) (sym x.is) ∙ sym (text-double (filled e) f inner k) in
-      (token.Open opener.Double n ∷ w.0, g.double w.1 v.1, subst (λ (z : List ℕ). GoesIf (not a.flag) m a.text z (token.Open opener.Double n ∷ w.0)) q (put-if i a tt _ w.0 w.2 (λ l q. absurd l)));
+      (token.Open opener.Double n ∷ w.0, g.double w.1 v.1, loose (subst (λ (z : List ℕ). Goes m a.text z (token.Open opener.Double n ∷ w.0)) q (put i a tt _ w.0 w.2)));
 }
 
-braces-go : {e : Draft} {f d : ℕ} {s t s' : Draft} {ps qs inner : List Part} {m n : Mode} {ts mid rest : List Token} (nm : List ℕ) (o : ParamOp) (k fl : Bool) (i : IsKnown m) (a : At m (token.Open (opener.Braces nm o k fl) n ∷ ts))
-    (x : PartsGo e f d s [] (token.End end.Brace n ∷ mid) inner t (mode.Braces fl) (tail i a).text (tail i a).flag) → PartsGo e (suc f) (suc d) t (ps ++ part.Param nm o k (Some (word inner)) ∷ []) rest qs s' n (tail x.known x.there).text (tail x.known x.there).flag →
-    PartsGo e (suc f) (suc d) s ps rest qs s' m a.text a.flag
+braces-go : {e : Draft} {f d : ℕ} {s t s' : Draft} {ps qs inner : List Part} {m n : Mode} {ts mid rest : List Token} {tight : Bool} (nm : List ℕ) (o : ParamOp) (k fl : Bool) (i : IsKnown m) (a : At m (token.Open (opener.Braces nm o k fl) n ∷ ts))
+    (x : PartsGo e f d s [] (token.End end.Brace n ∷ mid) inner t (mode.Braces fl) (tail i a).text true) → PartsGo e (suc f) (suc d) t (ps ++ part.Param nm o k (Some (word inner)) ∷ []) rest qs s' n (tail x.known x.there).text tight →
+    PartsGo e (suc f) (suc d) s ps rest qs s' m a.text tight
 braces-go {e} {f} {ps = ps} {inner = inner} {m = m} {n = n} nm o k fl i a x y = record {
   new = part.Param nm o k (Some (word inner)) ∷ y.new;
   is = y.is ∙ append_assoc ps (part.Param nm o k (Some (word inner)) ∷ []) y.new;
@@ -715,18 +699,18 @@ braces-go {e} {f} {ps = ps} {inner = inner} {m = m} {n = n} nm o k fl i a x y = 
   way = y.way;
   known = y.known;
   there = y.there;
-  stays = λ q. y.stays (x.stays q);
+  lone = y.lone;
   go = λ c us h.
       let v = y.go c us h in
       let z = each (P e (suc f)) y.new c in
-      let w = x.go (written (token.End end.Brace n) z) (token.End end.Brace n ∷ v.0) (put-if x.known x.there tt z v.0 v.2 (λ l q. absurd l)) in
+      let w = x.go (written (token.End end.Brace n) z) (token.End end.Brace n ∷ v.0) (inward x.known x.there (λ q. q) (put-if x.known x.there tt z v.0 v.2 (λ l q. absurd l))) in
       let q = ap (λ (j : List Part). opening (opener.Braces nm o k false) (each (P e f) j (ending end.Brace z))) (sym x.is) ∙ sym (text-braces (filled e) f nm o k inner z) in
-      (token.Open (opener.Braces nm o k fl) n ∷ w.0, g.braces w.1 v.1, subst (λ (z : List ℕ). GoesIf (not a.flag) m a.text z (token.Open (opener.Braces nm o k fl) n ∷ w.0)) q (put-if i a tt _ w.0 w.2 (λ l q. absurd l)));
+      (token.Open (opener.Braces nm o k fl) n ∷ w.0, g.braces w.1 v.1, loose (subst (λ (z : List ℕ). Goes m a.text z (token.Open (opener.Braces nm o k fl) n ∷ w.0)) q (put i a tt _ w.0 w.2)));
 }
 
-arith-go : {e : Draft} {f d : ℕ} {s t s' : Draft} {ps qs inner : List Part} {m n : Mode} {ts mid rest : List Token} (i : IsKnown m) (a : At m (token.Open opener.Arith n ∷ ts))
-    (x : PartsGo e f d s [] (token.End end.Arith n ∷ mid) inner t (mode.Arith 0) (tail i a).text (tail i a).flag) → PartsGo e (suc f) (suc d) t (ps ++ part.Arith (word inner) ∷ []) rest qs s' n (tail x.known x.there).text (tail x.known x.there).flag →
-    PartsGo e (suc f) (suc d) s ps rest qs s' m a.text a.flag
+arith-go : {e : Draft} {f d : ℕ} {s t s' : Draft} {ps qs inner : List Part} {m n : Mode} {ts mid rest : List Token} {tight : Bool} (i : IsKnown m) (a : At m (token.Open opener.Arith n ∷ ts))
+    (x : PartsGo e f d s [] (token.End end.Arith n ∷ mid) inner t (mode.Arith 0) (tail i a).text true) → PartsGo e (suc f) (suc d) t (ps ++ part.Arith (word inner) ∷ []) rest qs s' n (tail x.known x.there).text tight →
+    PartsGo e (suc f) (suc d) s ps rest qs s' m a.text tight
 arith-go {e} {f} {ps = ps} {inner = inner} {m = m} {n = n} i a x y = record {
   new = part.Arith (word inner) ∷ y.new;
   is = y.is ∙ append_assoc ps (part.Arith (word inner) ∷ []) y.new;
@@ -734,18 +718,18 @@ arith-go {e} {f} {ps = ps} {inner = inner} {m = m} {n = n} i a x y = record {
   way = y.way;
   known = y.known;
   there = y.there;
-  stays = λ q. y.stays (x.stays q);
+  lone = y.lone;
   go = λ c us h.
       let v = y.go c us h in
       let z = each (P e (suc f)) y.new c in
-      let w = x.go (written (token.End end.Arith n) z) (token.End end.Arith n ∷ v.0) (put-if x.known x.there tt z v.0 v.2 (λ l q. absurd l)) in
+      let w = x.go (written (token.End end.Arith n) z) (token.End end.Arith n ∷ v.0) (inward x.known x.there (λ q. q) (put-if x.known x.there tt z v.0 v.2 (λ l q. absurd l))) in
       let q = ap (λ (j : List Part). opening opener.Arith (each (P e f) j (ending end.Arith z))) (sym x.is) ∙ sym (text-arith (filled e) f inner z) in
-      (token.Open opener.Arith n ∷ w.0, g.arith w.1 v.1, subst (λ (z : List ℕ). GoesIf (not a.flag) m a.text z (token.Open opener.Arith n ∷ w.0)) q (put-if i a tt _ w.0 w.2 (λ l q. absurd l)));
+      (token.Open opener.Arith n ∷ w.0, g.arith w.1 v.1, loose (subst (λ (z : List ℕ). Goes m a.text z (token.Open opener.Arith n ∷ w.0)) q (put i a tt _ w.0 w.2)));
 }
 
-substitution-go : {e : Draft} {f d : ℕ} {s t s' : Draft} {ps qs : List Part} {is : List AndOr} {m n : Mode} {ts mid rest : List Token} (i : IsKnown m) (a : At m (token.Open opener.Command n ∷ ts))
+substitution-go : {e : Draft} {f d : ℕ} {s t s' : Draft} {ps qs : List Part} {is : List AndOr} {m n : Mode} {ts mid rest : List Token} {tight : Bool} (i : IsKnown m) (a : At m (token.Open opener.Command n ∷ ts))
     (x : MayGo e d (begin_list s) (token.End end.List n ∷ mid) is t (L e f (next_list s))) →
-    PartsGo e (suc f) (suc d) (end_list (next_list s) is t) (ps ++ part.Command (next_list s) ∷ []) rest qs s' n (tail (inl x.between) x.there).text (tail (inl x.between) x.there).flag → PartsGo e (suc f) (suc d) s ps rest qs s' m a.text a.flag
+    PartsGo e (suc f) (suc d) (end_list (next_list s) is t) (ps ++ part.Command (next_list s) ∷ []) rest qs s' n (tail (inl x.between) x.there).text tight → PartsGo e (suc f) (suc d) s ps rest qs s' m a.text tight
 substitution-go {e} {f} {s = s} {ps = ps} {m = m} {n = n} i a x y = record {
   new = part.Command (next_list s) ∷ y.new;
   is = y.is ∙ append_assoc ps (part.Command (next_list s) ∷ []) y.new;
@@ -753,7 +737,7 @@ substitution-go {e} {f} {s = s} {ps = ps} {m = m} {n = n} i a x y = record {
   way = y.way;
   known = y.known;
   there = y.there;
-  stays = λ q. absurd (no_list a.flag n a.plain.0 q);
+  lone = y.lone;
   go = λ c us h.
       let v = y.go c us h in
       let z = each (P e (suc f)) y.new c in
@@ -765,7 +749,7 @@ substitution-go {e} {f} {s = s} {ps = ps} {m = m} {n = n} i a x y = record {
 }
 
 redirs-go : {e : Draft} {f d : ℕ} {s t s' : Draft} {rs rs' : List Redir} (fd : ℕ) (o : RedirOp) {ps : List Part} {m : Mode} {ts mid rest : List Token} (i : IsBetween m) (a : At m (token.Redirect fd o ∷ ts)) → NotEmpty ps →
-    (x : PartsGo e f d s [] (token.End end.Word mode.Arguments ∷ mid) ps t mode.Arguments (tail (inl i) a).text (tail (inl i) a).flag) → RedirsGo e f d t (rs ++ redir fd o ps ∷ []) mid rest rs' s' → RedirsGo e f d s rs (token.Redirect fd o ∷ ts) rest rs' s'
+    (x : PartsGo e f d s [] (token.End end.Word mode.Arguments ∷ mid) ps t mode.Arguments (tail (inl i) a).text (ends_lone ps)) → RedirsGo e f d t (rs ++ redir fd o ps ∷ []) mid rest rs' s' → RedirsGo e f d s rs (token.Redirect fd o ∷ ts) rest rs' s'
 redirs-go {e} {f} {rs = rs} fd o {ps = ps} {m = m} i a nz x y = record {
   new = redir fd o ps ∷ y.new;
   is = y.is ∙ append_assoc rs (redir fd o ps ∷ []) y.new;
@@ -778,105 +762,314 @@ redirs-go {e} {f} {rs = rs} fd o {ps = ps} {m = m} i a nz x y = record {
       let w = y.go k us rd en in
       let t = each (redir_with (P e f)) y.new k in
       let v = x.go (written (token.End end.Word mode.Arguments) t) (token.End end.Word mode.Arguments ∷ w.0) (loose (put x.known x.there tt t w.0 (meets t w.0 tt (tail x.known x.there) w.3 w.2))) in
-      let b = subst (λ (q : List Part). GoesIf false mode.Arguments (tail (inl i) a).text (each (P e f) q (ending end.Word t)) v.0) (sym x.is) v.2 in
+      let b = subst (λ (q : List Part). GoesIf (ends_lone ps) mode.Arguments (tail (inl i) a).text (each (P e f) q (ending end.Word t)) v.0) (sym x.is) v.2 in
       (token.Redirect fd o ∷ v.0, g.one_redir (g.file v.1 nz) w.1, ready-redirect _ v.0 i a (put-if (inl i) a tt (each (P e f) ps (ending end.Word t)) v.0 b (λ l q. absurd l)), tt);
 }
 
-assign-go : {e : Draft} {f d : ℕ} {s0 s t s' : Draft} {c c' : Simple} {ps : List Part} {m : Mode} {ts mid rest : List Token} (nm : List ℕ) (i : IsBetween m) (a : At m (token.Assign nm ∷ ts)) → Standing m c.words →
-    (x : PartsGo e f d s [] (token.End end.Word mode.Prefix ∷ mid) ps t mode.Word (tail (inl i) a).text (tail (inl i) a).flag) → ElementsGo e f d s0 t (with_assign nm ps c) rest c' s' mode.Prefix mid → ElementsGo e f d s0 s c rest c' s' m (token.Assign nm ∷ ts)
-assign-go {e} {f} {d} {s = s} {s' = s'} {c = c} {ps = ps} {m = m} nm i a st x y = let z = tail x.known x.there in record {
-  assigns = (nm, word ps) ∷ y.assigns;
-  words = y.words;
-  redirs = y.redirs;
-  is = y.is ∙ ap (λ (q : List (List ℕ × Word)). simple_of q (c.words ++ y.words) (c.redirs ++ y.redirs)) (append_assoc c.assigns ((nm, word ps) ∷ []) y.assigns);
-  clear = y.clear;
-  order = λ n. absurd (n (seen-is (inl i) a));
-  due = y.due;
-  way = y.way;
-  between = y.between;
-  there = y.there;
-  go = λ rs k us rd en.
-      let w = y.go rs k us rd en in
-      let t = each (assign_with (P e f)) y.assigns (each (word_with (P e f)) y.words k) in
-      let l = subst (λ (n : Mode). Lexes n (source t []) w.0) (standing-prefix m c.words st (seen-is (inl i) a)) w.2.behind in
-      let o = goes-on t w.0 tt z w.3 l w.2.shut w.2.firm in
-      let v = x.go (written (token.End end.Word mode.Prefix) t) (token.End end.Word mode.Prefix ∷ w.0) (loose (put x.known x.there tt t w.0 o)) in
-      let b = subst (λ (q : List Part). GoesIf (not a.flag) mode.Word (tail (inl i) a).text (each (P e f) q (ending end.Word t)) v.0) (sym x.is) v.2 in
-      let all = put-if (inl i) a tt (each (P e f) ps (ending end.Word t)) v.0 b (λ l q. absurd l) in (
-        token.Assign nm ∷ v.0,
-        subst (λ (q : List (List ℕ × Word)). Elements d s (simple_of c.assigns c.words rs) (token.Assign nm ∷ v.0) us (simple_of q (c.words ++ y.words) rs) s') (append_assoc c.assigns ((nm, word ps) ∷ []) y.assigns) (g.assign v.1 w.1),
-        record { behind = read-behind m c.words _ (token.Assign nm ∷ v.0) st tt all.lexed; same = λ n. all.lexed; shut = shut-by _ i a tt all; firm = all.heads.firm },
-        tt,
-      );
-  ahead = y.ahead;
+-- ---- redirections in front
+
+-- A redirection in which no list begins may stand elsewhere.
+moved-redir : {e : Draft} {f d : ℕ} {rest : List Token} {s t : Draft} {fd : ℕ} {o : RedirOp} {ps : List Part} → RedirGo e f d rest s fd o ps t → parts_list ps ≡ None → t ≡ s → (u : Draft) → RedirGo e f d rest u fd o ps u
+moved-redir {s = s} {t = t} r n h u = record {
+  begins = inl (n, refl);
+  go = λ st m j c us l sh fm. let v = r.go st m j c us l sh fm in (v.0, moved v.1 (same-length s t h) u, v.2);
 }
 
-argument-go : {e : Draft} {f d : ℕ} {s0 s t s' : Draft} {c c' : Simple} {ps : List Part} {m : Mode} {ts mid rest : List Token} (i : IsBetween m) (a : At m ts) → NotEmpty ps → Standing m c.words → Starts ts →
-    (x : PartsGo e f d s [] (token.End end.Word mode.Arguments ∷ mid) ps t m a.text a.flag) → ElementsGo e f d s0 t (with_word ps c) rest c' s' mode.Arguments mid → ElementsGo e f d s0 s c rest c' s' m ts
-argument-go {e} {f} {d} {s = s} {s' = s'} {c = c} {ps = ps} {m = m} {ts = ts} i a nz st begun x y = let none' = y.order (λ q. q) in let z = tail x.known x.there in record {
-  assigns = [];
-  words = word ps ∷ y.words;
-  redirs = y.redirs;
-  is = y.is
-      ∙ (ap (λ (q : List (List ℕ × Word)). simple_of (c.assigns ++ q) ((c.words ++ word ps ∷ []) ++ y.words) (c.redirs ++ y.redirs)) none'
-      ∙ ap (λ (q : List Word). simple_of (c.assigns ++ []) q (c.redirs ++ y.redirs)) (append_assoc c.words (word ps ∷ []) y.words));
-  clear = y.clear;
-  order = λ n. refl;
-  due = y.due;
-  way = y.way;
-  between = y.between;
-  there = y.there;
-  go = λ rs k us rd en.
-      let w = y.go rs k us rd en in
-      let t = each (word_with (P e f)) y.words k in
-      let h = subst (λ (q : List (List ℕ × Word)). Stands (mode_before (c.words ++ word ps ∷ [])) mode.Arguments (y.redirs ≡ []) (each (assign_with (P e f)) q t) w.0) none' w.2 in
-      let l = subst (λ (n : Mode). Lexes n (source t []) w.0) (before-some c.words (word ps)) h.behind in
-      let o = goes-on t w.0 tt z (subst (λ (q : List (List ℕ × Word)). Ends _ (each (assign_with (P e f)) q t)) none' w.3) l h.shut h.firm in
-      let v = x.go (written (token.End end.Word mode.Arguments) t) (token.End end.Word mode.Arguments ∷ w.0) (loose (put x.known x.there tt t w.0 o)) in
-      let all = subst (λ (q : List Part). GoesIf (not a.flag) m a.text (each (P e f) q (ending end.Word t)) v.0) (sym x.is) v.2 in
-      let q1 = ap (λ (q : List (List ℕ × Word)). simple_of (c.assigns ++ q) ((c.words ++ word ps ∷ []) ++ y.words) rs) none' ∙ ap (λ (q : List Word). simple_of (c.assigns ++ []) q rs) (append_assoc c.words (word ps ∷ []) y.words) in (
-        v.0,
-        subst (λ (q : Simple). Elements d s (simple_of c.assigns c.words rs) v.0 us q s') q1 (g.argument v.1 nz w.1),
-        record { behind = read-behind m c.words _ v.0 st (starts v.1 nz) all.lexed; same = λ n. all.lexed; shut = shut-word i a begun all; firm = all.heads.firm },
-        starts-ends ts _ begun,
-      );
-  ahead = y.ahead;
+-- Those in front of a list that comes next have none, and the others are left.
+abbrev Parted : Draft → ℕ → ℕ → List Token → Draft → Draft → Draft → ℕ → List Redir → Type 0
+Parted e f d rest w t u n rs = Early e f d rest w (going (Some n) rs) w × Early e f d rest t (waiting (Some n) rs) u
+
+early-more : {e : Draft} {f d : ℕ} {rest : List Token} {s t u : Draft} {fd : ℕ} {o : RedirOp} {ps : List Part} {rs : List Redir} (v : Bool) (n : ℕ) → n ≤ next_list s → (w : Draft) → goes_first (Some n) (redir fd o ps) ≡ v →
+    RedirGo e f d rest s fd o ps t → NotEmpty ps → Early e f d rest t rs u → Parted e f d rest w t u n rs → Parted e f d rest w s u n (redir fd o ps ∷ rs)
+early-more {e} {f} {d} {rest} {s} {t} {u} {fd} {o} {ps} {rs} true n h w q r nz y z =
+    let b = next-none s t (redir fd o ps) n h r.begins q in (
+      subst (λ (l : List Redir). Early e f d rest w l w) (sym (going-more (Some n) (redir fd o ps) rs q)) (one_early (moved-redir r b.0 b.1 w) nz z.0),
+      subst (λ (l : List Redir). Early e f d rest s l u) (sym (waiting-more (Some n) (redir fd o ps) rs q)) (subst (λ (x : Draft). Early e f d rest x (waiting (Some n) rs) u) b.1 z.1),
+    )
+early-more {e} {f} {d} {rest} {s} {t} {u} {fd} {o} {ps} {rs} false n h w q r nz y z = (
+  subst (λ (l : List Redir). Early e f d rest w l w) (sym (going-none (Some n) (redir fd o ps) rs q)) no_early,
+  subst (λ (l : List Redir). Early e f d rest s l u) (sym (waiting-all (Some n) (redir fd o ps) rs q)) (one_early r nz y),
+)
+
+early-parted : {e : Draft} {f d : ℕ} {rest : List Token} {t u : Draft} {rs : List Redir} → Early e f d rest t rs u → (n : ℕ) → n ≤ next_list t → (w : Draft) → Parted e f d rest w t u n rs
+early-parted no_early n h w = (no_early, no_early)
+early-parted (one_early {fd = fd} {o = o} {ps = ps} r nz y) n h w =
+    early-more (goes_first (Some n) (redir fd o ps)) n h w refl r nz y (early-parted y n (let k = begins-below r.begins in omega (arith, h, k)) w)
+
+-- Redirections are written in front of the rest of a simple command.
+early-go : {e : Draft} {f d : ℕ} {rest : List Token} {s t : Draft} {rs : List Redir} → Early e f d rest s rs t → StopsAt rest → (xs : List (List ℕ × Word)) (ws : List Word) (qs : List Redir) (x : List ℕ) (us vs : List Token) (c : Simple) (u : Draft) →
+    Elements d t (simple_of xs ws (qs ++ rs)) us vs c u → Lexes (mode_before ws) (source x []) us → opens_parenthesis (skip x) ≡ false → Firm x →
+    (ts : List Token) × Elements d s (simple_of xs ws qs) ts vs c u × Stands (mode_before ws) mode.Command (rs ≡ [] → ⊥) (each (redir_with (P e f)) rs x) ts
+early-go {d = d} {s = s} no_early st xs ws qs x us vs c u p l sh fm =
+    (us, subst (λ (r : List Redir). Elements d s (simple_of xs ws r) us vs c u) (sym (nil-right qs)) p, record { behind = l; same = λ n. absurd (n refl); shut = sh; firm = fm })
+early-go {e} {f} {d} {t = t} (one_early {fd = fd} {o = o} {ps = ps} {rs = rs} r nz y) st xs ws qs x us vs c u p l sh fm =
+    let p' = subst (λ (z : List Redir). Elements d t (simple_of xs ws z) us vs c u) (sym (append_assoc qs (redir fd o ps ∷ []) rs)) p in
+    let w = early-go y st xs ws (qs ++ redir fd o ps ∷ []) x us vs c u p' l sh fm in
+    let v = r.go st (mode_before ws) (before-between ws) (each (redir_with (P e f)) rs x) w.0 w.2.behind w.2.shut w.2.firm in
+    let rd = v.2 in
+    (token.Redirect fd o ∷ v.0, g.redirection (g.file v.1 nz) w.1, record { behind = rd.any (mode_before ws) (before-between ws); same = λ n. rd.any mode.Command tt; shut = rd.shut; firm = rd.firm })
+
+-- ---- what is put in front of the rest of a simple command
+
+-- An assignment or a word, read from the draft s to t, is put behind the redirections that stand in front of it, where o is the
+-- first list from there on, and p the first one behind.
+record Placed (e : Draft) (f d : ℕ) (rest : List Token) (s t : Draft) (ps : List Part) (o p : Option ℕ) (rs : List Redir) (mid : Draft) : Type 0 where
+  at : Draft
+  by : Draft
+  early : Early e f d rest s (going o rs) at
+  moves : (ts us : List Token) → Parts d s [] ts us ps t → Parts d at [] ts us ps by
+  later : Early e f d rest by (going p (waiting o rs)) mid
+  front : going p rs ≡ going o rs ++ going p (waiting o rs)
+  waits : waiting p rs ≡ waiting p (waiting o rs)
+
+placed-same : {e : Draft} {f d : ℕ} {rest : List Token} {s t : Draft} {ps : List Part} {p : Option ℕ} {rs : List Redir} {mid : Draft} → t ≡ s → Early e f d rest t (going p rs) mid → Placed e f d rest s t ps p p rs mid
+placed-same {e} {f} {d} {rest} {s} {t} {ps} {p} {rs} {mid} h y = let k = split p p rs (λ r q. q) in record {
+  at = mid;
+  by = mid;
+  early = subst (λ (x : Draft). Early e f d rest x (going p rs) mid) h y;
+  moves = λ ts us q. moved q (same-length s t h) mid;
+  later = subst (λ (l : List Redir). Early e f d rest mid l mid) (sym (settled p rs).0) no_early;
+  front = k.0;
+  waits = k.1;
 }
 
-redirection-go : {e : Draft} {f d : ℕ} {s0 s t s' : Draft} {c c' : Simple} (fd : ℕ) (o : RedirOp) {ps : List Part} {m n : Mode} {ts0 mid rest : List Token} (i : IsBetween m) (a : At m (token.Redirect fd o ∷ ts0)) → NotEmpty ps → n ≡ mode_before c.words → t ≡ s → IsBetween n → (StopsAt rest → StopsAt mid) → Standing m c.words →
-    (x : PartsGo e f d s [] (token.End end.Word n ∷ mid) ps t mode.Arguments (tail (inl i) a).text (tail (inl i) a).flag) → ElementsGo e f d s0 t (with_redir (redir fd o ps) c) rest c' s' n mid → ElementsGo e f d s0 s c rest c' s' m (token.Redirect fd o ∷ ts0)
-redirection-go {e} {f} {d} {s0} {s} {t} {s'} {c} fd o {ps = ps} {m = m} {n = n} i a nz nb ts jn stop st x y = record {
-  assigns = y.assigns;
-  words = y.words;
-  redirs = redir fd o ps ∷ y.redirs;
-  is = y.is ∙ ap (λ (q : List Redir). simple_of (c.assigns ++ y.assigns) (c.words ++ y.words) q) (append_assoc c.redirs (redir fd o ps ∷ []) y.redirs);
-  clear = ap (λ (q : Redir). q ∷ filled_redirs e.heres y.redirs) (file-clear e.heres fd o ps (seen-is (inl i) a)) ∙ ap (λ (q : List Redir). redir fd o ps ∷ q) y.clear;
-  order = λ q. y.order (λ h. q (assigns-behind m n c.words st nb h));
-  due = y.due;
-  way = y.way;
-  between = y.between;
-  there = y.there;
-  go = λ rs k us rd en.
-      let w = y.go rs k us rd en in (
-        w.0,
-        subst (λ (q : Draft). Elements d q (simple_of c.assigns c.words rs) w.0 us (simple_of (c.assigns ++ y.assigns) (c.words ++ y.words) rs) s') ts w.1,
-        record { behind = w.2.behind; same = λ q. absurd (cons-nil _ _ q); shut = w.2.shut; firm = w.2.firm },
-        tt,
-      );
-  ahead = λ rs k us vs q u sr p l sh fm.
-      let p' = subst (λ (r : List Redir). Elements d s0 (simple_of [] [] r) us vs q u) (sym (append_assoc rs (redir fd o ps ∷ []) y.redirs)) p in
-      let w = y.ahead (rs ++ redir fd o ps ∷ []) k us vs q u sr p' l sh fm in
-      let b = each (redir_with (P e f)) y.redirs k in
-      let g0 = goes-behind mode.Prefix b w.0 jn (tail x.known x.there) (stop sr) tt w.2.behind w.2.shut w.2.firm in
-      let g1 = subst (λ (q : Bool). GoesIf (not q) x.way x.there.text (written (token.End end.Word mode.Prefix) b) (token.End end.Word mode.Prefix ∷ w.0)) (sym (x.stays refl)) (put-end x.known x.there mode.Prefix tt b w.0 g0) in
-      let v = x.go (written (token.End end.Word mode.Prefix) b) (token.End end.Word mode.Prefix ∷ w.0) g1 in
-      let j = subst (λ (r : List Part). GoesIf false mode.Arguments (tail (inl i) a).text (each (P e f) r (ending end.Word b)) v.0) (sym x.is) v.2 in
-      let rd = ready-redirect _ v.0 i a (put-if (inl i) a tt (each (P e f) ps (ending end.Word b)) v.0 j (λ l q. absurd l)) in
-      (token.Redirect fd o ∷ v.0, g.redirection (g.file (moved v.1 (omega (arith, ap (λ (q : Draft). length q.script.lists) ts)) s0) nz) w.1, record { behind = rd.any mode.Prefix tt; same = λ r. rd.any mode.Command tt; shut = rd.shut; firm = rd.firm });
+placed-next : {e : Draft} {f d : ℕ} {rest : List Token} {s t : Draft} {ps : List Part} {p : Option ℕ} {rs : List Redir} {mid : Draft} → next_list s ≤ next_list t → Least t p → Early e f d rest t (going p rs) mid →
+    Placed e f d rest s t ps (Some (next_list s)) p rs mid
+placed-next {e} {f} {d} {rest} {s} {t} {ps} {p} {rs} {mid} h l y =
+    let o = Some (next_list s) in
+    let w = fewer-next s t p h l in
+    let k = split o p rs w in
+    let j = through o p rs w in
+    let z = early-parted y (next_list s) h s in record {
+      at = s;
+      by = t;
+      early = subst (λ (l : List Redir). Early e f d rest s l s) j.0 z.0;
+      moves = λ ts us q. q;
+      later = subst (λ (l : List Redir). Early e f d rest t l mid) j.1 z.1;
+      front = k.0;
+      waits = k.1;
+    }
+
+placed : {e : Draft} {f d : ℕ} {rest : List Token} {s t : Draft} {ps : List Part} {p : Option ℕ} {rs : List Redir} {mid : Draft} → Begins s t (parts_list ps) → Least t p → Early e f d rest t (going p rs) mid →
+    Placed e f d rest s t ps (or_first (parts_list ps) p) p rs mid
+placed {e} {f} {d} {rest} {s} {t} {ps} {p} {rs} {mid} (inl b) l y =
+    subst (λ (o : Option ℕ). Placed e f d rest s t ps (or_first o p) p rs mid) (sym b.0) (placed-same b.1 y)
+placed {e} {f} {d} {rest} {s} {t} {ps} {p} {rs} {mid} (inr b) l y =
+    subst (λ (o : Option ℕ). Placed e f d rest s t ps (or_first o p) p rs mid) (sym b.0) (placed-next (let h = b.1 in omega (arith, h)) l y)
+
+some-last : {A : Type 0} (xs ys : List A) → NotEmpty ys → NotEmpty (xs ++ ys)
+some-last [] ys n = n
+some-last (x ∷ xs) ys n = tt
+
+-- what comes first behind an assignment or a word
+ends-all : (w : Redir → List ℕ → List ℕ) (rs : List Redir) (ts : List Token) (x : List ℕ) → (NotEmpty rs → (z : List ℕ) → Ends ts z) → Ends ts x → Ends ts (each w rs x)
+ends-all w [] ts x h n = n
+ends-all w (r ∷ rs) ts x h n = h tt (w r (each w rs x))
+
+-- What is written behind an assignment or a word: redirections that waited for it, and the rest.
+abbrev BehindGo : ℕ → Draft → List (List ℕ × Word) → List Word → List Redir → List Token → Simple → Draft → List Token → List ℕ → Type 0
+BehindGo d s xs ws rs us c u from x = (ts : List Token) × Elements d s (simple_of xs ws rs) ts us c u × Lexes (mode_before ws) (source x []) ts × (opens_parenthesis (skip x) ≡ false) × Firm x × Ends from x
+
+behind-go : {e : Draft} {f d : ℕ} {s t u : Draft} {rest vs us : List Token} {rs : List Redir} {ps : List Part} {o p : Option ℕ} {c : Simple} {mid : Draft} (from : List Token) (x : List ℕ) (xs : List (List ℕ × Word)) (ws : List Word) (qs : List Redir) →
+    (y : Placed e f d rest s t ps o p rs mid) → StopsAt rest → (NotEmpty (going p rs) → (z : List ℕ) → Ends from z) → Elements d mid (simple_of xs ws (qs ++ going p (waiting o rs))) us vs c u →
+    Lexes (mode_before ws) (source x []) us → opens_parenthesis (skip x) ≡ false → Firm x → Ends from x → BehindGo d y.by xs ws qs vs c u from (each (redir_with (P e f)) (going p (waiting o rs)) x)
+behind-go {e} {f} {u = u} {vs = vs} {us = us} {rs = rs} {o = o} {p = p} {c = c} from x xs ws qs y st h q l sh fm en =
+    let z = early-go y.later st xs ws qs x us vs c u q l sh fm in
+    let n = λ (k : NotEmpty (going p (waiting o rs))). h (subst NotEmpty (sym y.front) (some-last (going o rs) (going p (waiting o rs)) k)) in
+    (z.0, z.1, z.2.behind, z.2.shut, z.2.firm, ends-all (redir_with (P e f)) (going p (waiting o rs)) from x n en)
+
+-- the redirections behind it, and those that wait on
+waits-all : (rs : List Redir) (p : Option ℕ) (ws : List Redir) → (rs ++ going p ws) ++ waiting p ws ≡ rs ++ ws
+waits-all rs p ws = append_assoc rs (going p ws) (waiting p ws) ∙ ap (λ (z : List Redir). rs ++ z) (parted p ws)
+
+assign-go : {e : Draft} {f d : ℕ} {s t s' : Draft} {c c' : Simple} {ps : List Part} {m : Mode} {ts mid rest : List Token} (nm : List ℕ) (i : IsBetween m) (a : At m (token.Assign nm ∷ ts)) → Standing m c.words → Begins s t (parts_list ps) →
+    (x : PartsGo e f d s [] (token.End end.Word mode.Prefix ∷ mid) ps t mode.Word (tail (inl i) a).text true) → ElementsGo e f d t (with_assign nm ps c) rest c' s' mode.Prefix mid → ElementsGo e f d s c rest c' s' m (token.Assign nm ∷ ts)
+assign-go {e} {f} {d} {s = s} {t = t} {s' = s'} {c = c} {ps = ps} {m = m} {mid = mid} {rest = rest} nm i a st bg x y =
+    let z = tail x.known x.there in
+    let p = assigns_list y.assigns y.words in
+    let o = or_first (parts_list ps) p in
+    let xs = c.assigns ++ (nm, word ps) ∷ [] in
+    let pl : Placed e f d rest s t ps o p y.redirs y.mid = placed bg y.least y.early in record {
+      assigns = (nm, word ps) ∷ y.assigns;
+      words = y.words;
+      redirs = y.redirs;
+      is = y.is ∙ ap (λ (q : List (List ℕ × Word)). simple_of q (c.words ++ y.words) (c.redirs ++ y.redirs)) (append_assoc c.assigns ((nm, word ps) ∷ []) y.assigns);
+      clear = y.clear;
+      order = λ n. absurd (n (seen-is (inl i) a));
+      due = y.due;
+      way = y.way;
+      between = y.between;
+      there = y.there;
+      least = least-or s t (parts_list ps) p bg y.least;
+      mid = pl.at;
+      early = pl.early;
+      ends = λ n k. tt;
+      go = λ rs k us rd en.
+          let A = going p (waiting o y.redirs) in
+          let B = waiting p (waiting o y.redirs) in
+          let w = subst (λ (W : List Redir). (ts : List Token) × Elements d y.mid (simple_of xs c.words (rs ++ A)) ts us (simple_of (xs ++ y.assigns) (c.words ++ y.words) ((rs ++ A) ++ W)) s'
+          × Stands (mode_before c.words) mode.Prefix (going p y.redirs ≡ []) (assigns_with (P e f) y.assigns y.words W k) ts × Ends mid (assigns_with (P e f) y.assigns y.words W k)) pl.waits (y.go (rs ++ A) k us rd en) in
+          let b = behind-go mid (assigns_with (P e f) y.assigns y.words B k) xs c.words rs pl (ends-stops rest k en) y.ends w.1 w.2.behind w.2.shut w.2.firm w.3 in
+          let t0 = each (redir_with (P e f)) A (assigns_with (P e f) y.assigns y.words B k) in
+          let l = subst (λ (n : Mode). Lexes n (source t0 []) b.0) (standing-prefix m c.words st (seen-is (inl i) a)) b.2 in
+          let h = goes-on t0 b.0 tt z b.5 l b.3 b.4 in
+          let v = x.go (written (token.End end.Word mode.Prefix) t0) (token.End end.Word mode.Prefix ∷ b.0) (put x.known x.there tt t0 b.0 h) in
+          let r = subst (λ (q : List Part). Goes mode.Word (tail (inl i) a).text (each (P e f) q (ending end.Word t0)) v.0) (sym x.is) v.2 in
+          let all = put (inl i) a tt (each (P e f) ps (ending end.Word t0)) v.0 r in
+          let q = ap (λ (q : List (List ℕ × Word)). simple_of q (c.words ++ y.words) ((rs ++ A) ++ B)) (append_assoc c.assigns ((nm, word ps) ∷ []) y.assigns)
+          ∙ ap (simple_of (c.assigns ++ (nm, word ps) ∷ y.assigns) (c.words ++ y.words)) (waits-all rs p (waiting o y.redirs)) in (
+            token.Assign nm ∷ v.0,
+            subst (λ (q : Simple). Elements d pl.at (simple_of c.assigns c.words rs) (token.Assign nm ∷ v.0) us q s') q (g.assign (pl.moves v.0 (token.End end.Word mode.Prefix ∷ b.0) v.1) b.1),
+            record { behind = read-behind m c.words _ (token.Assign nm ∷ v.0) st tt all.lexed; same = λ n. all.lexed; shut = shut-by _ i a tt all; firm = all.heads.firm },
+            tt,
+          );
+    }
+
+argument-go : {e : Draft} {f d : ℕ} {s t s' : Draft} {c c' : Simple} {ps : List Part} {m : Mode} {ts mid rest : List Token} (i : IsBetween m) (a : At m ts) → NotEmpty ps → Standing m c.words → Starts ts → Begins s t (parts_list ps) →
+    (x : PartsGo e f d s [] (token.End end.Word mode.Arguments ∷ mid) ps t m a.text true) → ElementsGo e f d t (with_word ps c) rest c' s' mode.Arguments mid → ElementsGo e f d s c rest c' s' m ts
+argument-go {e} {f} {d} {s = s} {t = t} {s' = s'} {c = c} {ps = ps} {m = m} {ts = ts} {mid = mid} {rest = rest} i a nz st begun bg x y =
+    let none' = y.order (λ q. q) in
+    let z = tail x.known x.there in
+    let p = words_list y.words in
+    let o = or_first (parts_list ps) p in
+    let ws = c.words ++ word ps ∷ [] in
+    let least0 = subst (λ (q : List (List ℕ × Word)). Least t (assigns_list q y.words)) none' y.least in
+    let early0 = subst (λ (q : List (List ℕ × Word)). Early e f d rest t (going (assigns_list q y.words) y.redirs) y.mid) none' y.early in
+    let ends0 = subst (λ (q : List (List ℕ × Word)). NotEmpty (going (assigns_list q y.words) y.redirs) → (x : List ℕ) → Ends mid x) none' y.ends in
+    let pl : Placed e f d rest s t ps o p y.redirs y.mid = placed bg least0 early0 in record {
+      assigns = [];
+      words = word ps ∷ y.words;
+      redirs = y.redirs;
+      is = y.is
+          ∙ (ap (λ (q : List (List ℕ × Word)). simple_of (c.assigns ++ q) (ws ++ y.words) (c.redirs ++ y.redirs)) none'
+          ∙ ap (λ (q : List Word). simple_of (c.assigns ++ []) q (c.redirs ++ y.redirs)) (append_assoc c.words (word ps ∷ []) y.words));
+      clear = y.clear;
+      order = λ n. refl;
+      due = y.due;
+      way = y.way;
+      between = y.between;
+      there = y.there;
+      least = least-or s t (parts_list ps) p bg least0;
+      mid = pl.at;
+      early = pl.early;
+      ends = λ n k. starts-ends ts k begun;
+      go = λ rs k us rd en.
+          let A = going p (waiting o y.redirs) in
+          let B = waiting p (waiting o y.redirs) in
+          let w0 = subst (λ (q : List (List ℕ × Word)). (ts : List Token) × Elements d y.mid (simple_of c.assigns ws (rs ++ A)) ts us (simple_of (c.assigns ++ q) (ws ++ y.words) ((rs ++ A) ++ waiting (assigns_list q y.words) y.redirs)) s'
+          × Stands (mode_before ws) mode.Arguments (going (assigns_list q y.words) y.redirs ≡ []) (assigns_with (P e f) q y.words (waiting (assigns_list q y.words) y.redirs) k) ts
+          × Ends mid (assigns_with (P e f) q y.words (waiting (assigns_list q y.words) y.redirs) k)) none' (y.go (rs ++ A) k us rd en) in
+          let w = subst (λ (W : List Redir). (ts : List Token) × Elements d y.mid (simple_of c.assigns ws (rs ++ A)) ts us (simple_of (c.assigns ++ []) (ws ++ y.words) ((rs ++ A) ++ W)) s'
+          × Stands (mode_before ws) mode.Arguments (going p y.redirs ≡ []) (words_with (P e f) y.words W k) ts × Ends mid (words_with (P e f) y.words W k)) pl.waits w0 in
+          let b = behind-go mid (words_with (P e f) y.words B k) c.assigns ws rs pl (ends-stops rest k en) ends0 w.1 w.2.behind w.2.shut w.2.firm w.3 in
+          let t0 = each (redir_with (P e f)) A (words_with (P e f) y.words B k) in
+          let l = subst (λ (n : Mode). Lexes n (source t0 []) b.0) (before-some c.words (word ps)) b.2 in
+          let h = goes-on t0 b.0 tt z b.5 l b.3 b.4 in
+          let v = x.go (written (token.End end.Word mode.Arguments) t0) (token.End end.Word mode.Arguments ∷ b.0) (put x.known x.there tt t0 b.0 h) in
+          let all = subst (λ (q : List Part). Goes m a.text (each (P e f) q (ending end.Word t0)) v.0) (sym x.is) v.2 in
+          let q = ap (λ (q : List Word). simple_of (c.assigns ++ []) q ((rs ++ A) ++ B)) (append_assoc c.words (word ps ∷ []) y.words)
+          ∙ ap (simple_of (c.assigns ++ []) (c.words ++ word ps ∷ y.words)) (waits-all rs p (waiting o y.redirs)) in (
+            v.0,
+            subst (λ (q : Simple). Elements d pl.at (simple_of c.assigns c.words rs) v.0 us q s') q (g.argument (pl.moves v.0 (token.End end.Word mode.Arguments ∷ b.0) v.1) nz b.1),
+            record { behind = read-behind m c.words _ v.0 st (starts v.1 nz) all.lexed; same = λ n. all.lexed; shut = shut-word i a begun all; firm = all.heads.firm },
+            starts-ends ts _ begun,
+          );
+    }
+
+-- a redirection that doesn't end in a backslash
+redir-go : {e : Draft} {f d : ℕ} {s t : Draft} (fd : ℕ) (o : RedirOp) {ps : List Part} {m n : Mode} {ts mid rest : List Token} (i : IsBetween m) (a : At m (token.Redirect fd o ∷ ts)) → IsBetween n → (StopsAt rest → StopsAt mid) →
+    Begins s t (parts_list ps) → ends_lone ps ≡ false → PartsGo e f d s [] (token.End end.Word n ∷ mid) ps t mode.Arguments (tail (inl i) a).text (ends_lone ps) → RedirGo e f d rest s fd o ps t
+redir-go {e} {f} fd o {ps = ps} i a jn stop bg nl x = record {
+  begins = bg;
+  go = λ sr n j c us l sh fm.
+      let g0 = goes-behind n c us jn (tail x.known x.there) (stop sr) j l sh fm in
+      let g1 = subst (λ (q : Bool). GoesIf q x.way x.there.text (written (token.End end.Word n) c) (token.End end.Word n ∷ us)) (sym nl) (put-end x.known x.there n j c us g0) in
+      let v = x.go (written (token.End end.Word n) c) (token.End end.Word n ∷ us) g1 in
+      let r = subst (λ (q : List Part). GoesIf (ends_lone ps) mode.Arguments (tail (inl i) a).text (each (P e f) q (ending end.Word c)) v.0) (sym x.is) v.2 in
+      (v.0, v.1, ready-redirect _ v.0 i a (put-if (inl i) a tt (each (P e f) ps (ending end.Word c)) v.0 r (λ l q. absurd l)));
 }
+
+redirection-go : {e : Draft} {f d : ℕ} {s t s' : Draft} {c c' : Simple} (fd : ℕ) (o : RedirOp) {ps : List Part} {m n : Mode} {ts0 mid rest : List Token} (i : IsBetween m) (a : At m (token.Redirect fd o ∷ ts0)) → NotEmpty ps → n ≡ mode_before c.words → Standing m c.words →
+    ends_lone ps ≡ false → RedirGo e f d rest s fd o ps t → ElementsGo e f d t (with_redir (redir fd o ps) c) rest c' s' n mid → ElementsGo e f d s c rest c' s' m (token.Redirect fd o ∷ ts0)
+redirection-go {e} {f} {d} {s} {t} {s'} {c} fd o {ps = ps} {m = m} {n = n} {ts0 = ts0} {rest = rest} i a nz nb st nl r y =
+    let p = assigns_list y.assigns y.words in
+    let h = goes-before s t (redir fd o ps) p nl r.begins y.least in
+    let front = going-more p (redir fd o ps) y.redirs h in record {
+      assigns = y.assigns;
+      words = y.words;
+      redirs = redir fd o ps ∷ y.redirs;
+      is = y.is ∙ ap (λ (q : List Redir). simple_of (c.assigns ++ y.assigns) (c.words ++ y.words) q) (append_assoc c.redirs (redir fd o ps ∷ []) y.redirs);
+      clear = ap (λ (q : Redir). q ∷ filled_redirs e.heres y.redirs) (file-clear e.heres fd o ps (seen-is (inl i) a)) ∙ ap (λ (q : List Redir). redir fd o ps ∷ q) y.clear;
+      order = λ q. y.order (λ h. q (assigns-behind m n c.words st nb h));
+      due = y.due;
+      way = y.way;
+      between = y.between;
+      there = y.there;
+      least = least-lower s t p (begins-below r.begins) y.least;
+      mid = y.mid;
+      early = subst (λ (l : List Redir). Early e f d rest s l y.mid) (sym front) (one_early r nz y.early);
+      ends = λ n k. tt;
+      go = λ rs k us rd en.
+          let w = y.go rs k us rd en in
+          subst (λ (W : List Redir). (ts : List Token) × Elements d y.mid (simple_of c.assigns c.words rs) ts us (simple_of (c.assigns ++ y.assigns) (c.words ++ y.words) (rs ++ W)) s'
+          × Stands (mode_before c.words) m (going p (redir fd o ps ∷ y.redirs) ≡ []) (assigns_with (P e f) y.assigns y.words W k) ts × Ends (token.Redirect fd o ∷ ts0) (assigns_with (P e f) y.assigns y.words W k))
+          (sym (waiting-more p (redir fd o ps) y.redirs h))
+          (w.0, w.1, record { behind = w.2.behind; same = λ q. absurd (cons-nil _ _ (sym front ∙ q)); shut = w.2.shut; firm = w.2.firm }, tt);
+    }
+
+-- Nothing comes behind.
+elements-nil : {d : ℕ} {s t : Draft} {c c' : Simple} {ts rest : List Token} → Elements d s c ts rest c' t → ts ≡ [] → (rest ≡ []) × (c' ≡ c) × (t ≡ s)
+elements-nil g.no_element e = (e, refl, refl)
+elements-nil (g.assign p r) e = absurd (cons-nil _ _ e)
+elements-nil (g.argument p nz r) e = absurd (subst Starts e (starts p nz))
+elements-nil (g.redirection (g.file p nz) r) e = absurd (cons-nil _ _ e)
+elements-nil (g.redirection g.here r) e = absurd (cons-nil _ _ e)
+
+-- a redirection that does, which is the last thing of the text
+last_redirection-go : {e : Draft} {f d : ℕ} {s t s' : Draft} {c c' : Simple} (fd : ℕ) (o : RedirOp) {ps : List Part} {m n : Mode} {ts0 mid rest : List Token} (i : IsBetween m) (a : At m (token.Redirect fd o ∷ ts0)) → NotEmpty ps → n ≡ mode_before c.words → IsBetween n → ends_lone ps ≡ true →
+    Elements d t (with_redir (redir fd o ps) c) mid rest c' s' → (x : PartsGo e f d s [] (token.End end.Word n ∷ mid) ps t mode.Arguments (tail (inl i) a).text (ends_lone ps)) → mid ≡ [] → ElementsGo e f d s c rest c' s' m (token.Redirect fd o ∷ ts0)
+last_redirection-go {e} {f} {d} {s} {t} {s'} {c} {c'} fd o {ps = ps} {m = m} {n = n} {ts0 = ts0} {mid = mid} {rest = rest} i a nz nb jn nl r x none' =
+    let k = elements-nil r none' in
+    let q = redir fd o ps in
+    let front = going-none None q [] (lone-waits q None nl) in
+    let behind = waiting-all None q [] (lone-waits q None nl) in record {
+      assigns = [];
+      words = [];
+      redirs = q ∷ [];
+      is = k.1 ∙ simple-nil (simple_of c.assigns c.words (c.redirs ++ q ∷ []));
+      clear = ap (λ (z : Redir). z ∷ []) (file-clear e.heres fd o ps (seen-is (inl i) a));
+      order = λ n. refl;
+      due = still-due k.2 x.due;
+      way = n;
+      between = jn;
+      there = subst (At n) (none' ∙ sym k.0) (tail x.known x.there);
+      least = tt;
+      mid = s;
+      early = subst (λ (l : List Redir). Early e f d rest s l s) (sym front) no_early;
+      ends = λ n k. tt;
+      go = λ rs y us rd en.
+          let en' = subst (λ (l : List Token). Ends l y) (k.0 ∙ sym none') en in
+          let v = x.go (written (token.End end.Word n) y) (token.End end.Word n ∷ us) (loose (put x.known x.there jn y us (meets y us jn (tail x.known x.there) en' rd))) in
+          let b = subst (λ (q : List Part). GoesIf (ends_lone ps) mode.Arguments (tail (inl i) a).text (each (P e f) q (ending end.Word y)) v.0) (sym x.is) v.2 in
+          let rdy = ready-redirect _ v.0 i a (put-if (inl i) a tt (each (P e f) ps (ending end.Word y)) v.0 b (λ l q. absurd l)) in
+          let v1 = subst (λ (n : Mode). OneRedir n d s (token.Redirect fd o ∷ v.0) us q t) nb (g.file v.1 nz) in
+          let rest' = subst (λ (u : Draft). Elements d t (simple_of c.assigns c.words (rs ++ q ∷ [])) us us (simple_of (c.assigns ++ []) (c.words ++ []) (rs ++ q ∷ [])) u) (sym k.2)
+          (subst (λ (z : Simple). Elements d t (simple_of c.assigns c.words (rs ++ q ∷ [])) us us z t) (simple-nil (simple_of c.assigns c.words (rs ++ q ∷ []))) g.no_element) in
+          subst (λ (W : List Redir). (ts : List Token) × Elements d s (simple_of c.assigns c.words rs) ts us (simple_of (c.assigns ++ []) (c.words ++ []) (rs ++ W)) s'
+          × Stands (mode_before c.words) m (going None (q ∷ []) ≡ []) (each (redir_with (P e f)) W y) ts × Ends (token.Redirect fd o ∷ ts0) (each (redir_with (P e f)) W y))
+          (sym behind)
+          (token.Redirect fd o ∷ v.0, g.redirection v1 rest', record { behind = rdy.any (mode_before c.words) (before-between c.words); same = λ z. rdy.any m i; shut = rdy.shut; firm = rdy.firm }, tt);
+    }
+
+any_redirection-go : {e : Draft} {f d : ℕ} {s t s' : Draft} {c c' : Simple} (v : Bool) (fd : ℕ) (o : RedirOp) {ps : List Part} {m n : Mode} {ts0 mid rest : List Token} (i : IsBetween m) (a : At m (token.Redirect fd o ∷ ts0)) → NotEmpty ps → n ≡ mode_before c.words → IsBetween n → Standing m c.words →
+    Begins s t (parts_list ps) → ends_lone ps ≡ v → Elements d t (with_redir (redir fd o ps) c) mid rest c' s' → (x : PartsGo e f d s [] (token.End end.Word n ∷ mid) ps t mode.Arguments (tail (inl i) a).text (ends_lone ps)) →
+    ElementsGo e f d t (with_redir (redir fd o ps) c) rest c' s' n mid → ElementsGo e f d s c rest c' s' m (token.Redirect fd o ∷ ts0)
+any_redirection-go true fd o {mid = mid} i a nz nb jn st bg nl r x y =
+    last_redirection-go fd o i a nz nb jn nl r x (none-left mid jn (tail x.known x.there) (word-ended x.known x.there (x.lone nl jn)))
+any_redirection-go false fd o i a nz nb jn st bg nl r x y = redirection-go fd o i a nz nb st nl (redir-go fd o i a jn (elements-stops r) bg nl x) y
 
 for_word-go : {e : Draft} {f d : ℕ} {s t s' : Draft} {ws vs : List Word} {ps : List Part} {ts mid rest : List Token} (a : At mode.Arguments ts) → NotEmpty ps → Starts ts →
-    (x : PartsGo e f d s [] (token.End end.Word mode.Arguments ∷ mid) ps t mode.Arguments a.text a.flag) → ForWordsGo e f d t (ws ++ word ps ∷ []) rest vs s' (tail x.known x.there).text → ForWordsGo e f d s ws rest vs s' a.text
+    (x : PartsGo e f d s [] (token.End end.Word mode.Arguments ∷ mid) ps t mode.Arguments a.text true) → ForWordsGo e f d t (ws ++ word ps ∷ []) rest vs s' (tail x.known x.there).text → ForWordsGo e f d s ws rest vs s' a.text
 for_word-go {e} {f} {ws = ws} {ps = ps} {ts = ts} a nz b x y = record {
   new = word ps ∷ y.new;
   is = y.is ∙ append_assoc ws (word ps ∷ []) y.new;
@@ -885,12 +1078,12 @@ for_word-go {e} {f} {ws = ws} {ps = ps} {ts = ts} a nz b x y = record {
   go = λ k us g'.
       let w = y.go k us g' in
       let t = each (word_with (P e f)) y.new k in
-      let v = x.go (written (token.End end.Word mode.Arguments) t) (token.End end.Word mode.Arguments ∷ w.0) (loose (put x.known x.there tt t w.0 w.2)) in
-      (v.0, g.one_word v.1 nz w.1, tightly-at ts b tt a (subst (λ (q : List Part). GoesIf (not a.flag) mode.Arguments a.text (each (P e f) q (ending end.Word t)) v.0) (sym x.is) v.2));
+      let v = x.go (written (token.End end.Word mode.Arguments) t) (token.End end.Word mode.Arguments ∷ w.0) (put x.known x.there tt t w.0 w.2) in
+      (v.0, g.one_word v.1 nz w.1, tightly-at ts b tt a (subst (λ (q : List Part). Goes mode.Arguments a.text (each (P e f) q (ending end.Word t)) v.0) (sym x.is) v.2));
 }
 
 last_pattern-go : {e : Draft} {f d : ℕ} {s t : Draft} {ws : List Word} {ps : List Part} {m : Mode} {ts rest : List Token} (a : At m ts) → NotEmpty ps →
-    (x : PartsGo e f d s [] (token.End end.Word mode.Arguments ∷ rest) ps t m a.text a.flag) → PatternsGo e f d s ws rest (ws ++ word ps ∷ []) t m
+    (x : PartsGo e f d s [] (token.End end.Word mode.Arguments ∷ rest) ps t m a.text true) → PatternsGo e f d s ws rest (ws ++ word ps ∷ []) t m
 last_pattern-go {e} {f} {ws = ws} {ps = ps} {m = m} a nz x = let z = tail x.known x.there in record {
   first = word ps;
   others = [];
@@ -899,11 +1092,11 @@ last_pattern-go {e} {f} {ws = ws} {ps = ps} {m = m} a nz x = let z = tail x.know
   there = z;
   go = λ k us rd en.
       let v = x.go (written (token.End end.Word mode.Arguments) k) (token.End end.Word mode.Arguments ∷ us) (loose (put x.known x.there tt k us (meets k us tt z en rd))) in
-      (v.0, g.last_pattern v.1 nz, (subst (λ (q : List Part). GoesIf (not a.flag) m a.text (each (P e f) q (ending end.Word k)) v.0) (sym x.is) v.2).lexed);
+      (v.0, g.last_pattern v.1 nz, (subst (λ (q : List Part). Goes m a.text (each (P e f) q (ending end.Word k)) v.0) (sym x.is) v.2).lexed);
 }
 
 more_patterns-go : {e : Draft} {f d : ℕ} {s t s' : Draft} {ws vs : List Word} {ps : List Part} {m : Mode} {ts mid rest : List Token} (a : At m ts) → NotEmpty ps →
-    (x : PartsGo e f d s [] (token.End end.Word mode.Arguments ∷ token.Operator op.PipePattern ∷ mid) ps t m a.text a.flag) → PatternsGo e f d t (ws ++ word ps ∷ []) rest vs s' mode.Arguments → PatternsGo e f d s ws rest vs s' m
+    (x : PartsGo e f d s [] (token.End end.Word mode.Arguments ∷ token.Operator op.PipePattern ∷ mid) ps t m a.text true) → PatternsGo e f d t (ws ++ word ps ∷ []) rest vs s' mode.Arguments → PatternsGo e f d s ws rest vs s' m
 more_patterns-go {e} {f} {ws = ws} {ps = ps} {m = m} a nz x y = let z = tail x.known x.there in record {
   first = word ps;
   others = y.first ∷ y.others;
@@ -915,7 +1108,7 @@ more_patterns-go {e} {f} {ws = ws} {ps = ps} {m = m} a nz x y = let z = tail x.k
       let t = operator op.PipePattern (patterns_with (P e f) (y.first ∷ y.others) k) in
       let b = meets t (token.Operator op.PipePattern ∷ w.0) tt z tt (ready-bar (patterns_with (P e f) (y.first ∷ y.others) k) w.0 w.2) in
       let v = x.go (written (token.End end.Word mode.Arguments) t) (token.End end.Word mode.Arguments ∷ token.Operator op.PipePattern ∷ w.0) (loose (put x.known x.there tt t (token.Operator op.PipePattern ∷ w.0) b)) in
-      (v.0, g.more_patterns v.1 nz w.1, (subst (λ (q : List Part). GoesIf (not a.flag) m a.text (each (P e f) q (ending end.Word t)) v.0) (sym x.is) v.2).lexed);
+      (v.0, g.more_patterns v.1 nz w.1, (subst (λ (q : List Part). Goes m a.text (each (P e f) q (ending end.Word t)) v.0) (sym x.is) v.2).lexed);
 }
 
 one_arm-go : {e : Draft} {f d : ℕ} {s t u : Draft} {ws : List Word} {is : List AndOr} {ts mid mid' rest : List Token} → MayOpen ts mid → ((c : List ℕ) → Ends rest c) →
@@ -1023,7 +1216,7 @@ for_parameters-go {e} {f} {t = t} nm nn j en a1 y =
     }
 
 case-go : {e : Draft} {f d : ℕ} {s t u s' : Draft} {ps : List Part} {xs : List (List Word × ℕ)} {ts0 ts rest : List Token} → NotEmpty ps → u ≡ t → ((c : List ℕ) → Ends ts c) → (a1 : At mode.Arguments ts0) →
-    (x : PartsGo e f d s [] (token.End end.Word mode.Command ∷ ts) ps t mode.Arguments a1.text a1.flag) → ArmsGo e f d u [] rest xs s' → CompoundGo e f (suc d) s rest (compound.Case (word ps) xs) s'
+    (x : PartsGo e f d s [] (token.End end.Word mode.Command ∷ ts) ps t mode.Arguments a1.text true) → ArmsGo e f d u [] rest xs s' → CompoundGo e f (suc d) s rest (compound.Case (word ps) xs) s'
 case-go {e} {f} {ps = ps} nz k en a1 x y =
     let a3 = tail x.known x.there in record {
       due = y.due;
@@ -1033,7 +1226,7 @@ case-go {e} {f} {ps = ps} nz k en a1 x y =
           let t = each (arm_with (P e f) (L e f)) y.new (operator op.Esac c) in
           let g1 = goes-on (operator op.CaseIn t) (token.Operator op.CaseIn ∷ b.0) tt a3 (en (operator op.CaseIn t)) (in_of t b.0 b.2) (shut-in t).0 (shut-in t).1 in
           let v = x.go (written (token.End end.Word mode.Command) (operator op.CaseIn t)) (token.End end.Word mode.Command ∷ token.Operator op.CaseIn ∷ b.0) (loose (put x.known x.there tt (operator op.CaseIn t) (token.Operator op.CaseIn ∷ b.0) g1)) in
-          let w = (subst (λ (q : List Part). GoesIf (not a1.flag) mode.Arguments a1.text (each (P e f) q (ending end.Word (operator op.CaseIn t))) v.0) (sym x.is) v.2).lexed in (
+          let w = (subst (λ (q : List Part). Goes mode.Arguments a1.text (each (P e f) q (ending end.Word (operator op.CaseIn t))) v.0) (sym x.is) v.2).lexed in (
             token.Operator op.Case ∷ v.0,
             g.case_command {ts = v.0} v.1 nz (none k (token.Operator op.CaseIn ∷ b.0)) b.1,
             subst (λ (q : List (List Word × ℕ)). Lexes mode.Command (source (operator op.Case (word_with (P e f) (word ps) (operator op.CaseIn (each (arm_with (P e f) (L e f)) q (operator op.Esac c))))) []) (token.Operator op.Case ∷ v.0)) (sym y.is)
@@ -1177,7 +1370,13 @@ list-go {e} {f} {t = t} k y x = record {
       );
 }
 
-simple-go : {e : Draft} {f d : ℕ} {s s' : Draft} {c : Simple} {rest from : List Token} → HasElement c → ElementsGo e f d s s no_simple rest c s' mode.Command from → CommandGo e f d s rest (simple c) s'
+-- where no redirection stands in front
+bare-go : {e : Draft} {f d : ℕ} {s mid s' : Draft} {c : Simple} {rest us : List Token} (rs : List Redir) (t : List ℕ) (ts : List Token) → rs ≡ [] → Early e f d rest s rs mid → Elements d mid (simple_of [] [] rs) ts us c s' → Lexes mode.Command (source t []) ts →
+    (us' : List Token) × Elements d s no_simple us' us c s' × Lexes mode.Command (source (each (redir_with (P e f)) rs t) []) us'
+bare-go rs t ts h no_early q l = (ts, q, l)
+bare-go rs t ts h (one_early r nz y) q l = absurd (cons-nil _ _ h)
+
+simple-go : {e : Draft} {f d : ℕ} {s s' : Draft} {c : Simple} {rest from : List Token} → HasElement c → ElementsGo e f d s no_simple rest c s' mode.Command from → CommandGo e f d s rest (simple c) s'
 simple-go {e} {f} {d} {s} {s'} {c} {rest} nz x = record {
   clear = ap (λ (z : Simple). filled_command e.heres (simple z)) x.is ∙ (ap (λ (q : List Redir). simple (simple_of x.assigns x.words q)) x.clear ∙ ap simple (sym x.is));
   due = x.due;
@@ -1185,88 +1384,124 @@ simple-go {e} {f} {d} {s} {s'} {c} {rest} nz x = record {
   between = x.between;
   there = x.there;
   go = λ k us rd en.
-      let w = x.go x.redirs k us rd en in
-      let t = each (assign_with (P e f)) x.assigns (each (word_with (P e f)) x.words k) in
-      let p = subst (λ (z : Simple). Elements d s (simple_of [] [] x.redirs) w.0 us z s') (sym x.is) w.1 in
-      let b = x.ahead [] t w.0 us c s' (ends-stops rest k en) p w.2.behind w.2.shut w.2.firm in
-      elim (empty-or x.redirs) [
-        | inl e0 ↦ (
-          w.0,
-          g.simple_command (subst (λ (r : List Redir). Elements d s (simple_of [] [] r) w.0 us c s') e0 p) nz,
-          subst (λ (z : Simple). Lexes mode.Command (source (command_with (filled e) (P e f) (L e f) (simple z) k) []) w.0) (sym x.is)
-              (subst (λ (r : List Redir). Lexes mode.Command (source (each (redir_with (P e f)) r t) []) w.0) (sym e0) (w.2.same e0)),
-        )
-        | inr n0 ↦ (b.0, g.simple_command b.1 nz, subst (λ (z : Simple). Lexes mode.Command (source (command_with (filled e) (P e f) (L e f) (simple z) k) []) b.0) (sym x.is) (b.2.same n0))
-      ];
+      let o = assigns_list x.assigns x.words in
+      let A = going o x.redirs in
+      let w = x.go A k us rd en in
+      let t = assigns_with (P e f) x.assigns x.words (waiting o x.redirs) k in
+      let q = ap (simple_of x.assigns x.words) (parted o x.redirs) ∙ sym x.is in
+      let p = subst (λ (z : Simple). Elements d x.mid (simple_of [] [] A) w.0 us z s') q w.1 in
+      let b = elim (empty-or A) as (λ z. (us' : List Token) × Elements d s no_simple us' us c s' × Lexes mode.Command (source (each (redir_with (P e f)) A t) []) us') [
+        | inl e0 ↦ bare-go A t w.0 e0 x.early p (w.2.same e0)
+        | inr n0 ↦ let v = early-go x.early (ends-stops rest k en) [] [] [] t w.0 us c s' p w.2.behind w.2.shut w.2.firm in (v.0, v.1, v.2.same n0)
+      ] in
+      (b.0, g.simple_command b.1 nz, subst (λ (z : Simple). Lexes mode.Command (source (command_with (filled e) (P e f) (L e f) (simple z) k) []) b.0) (sym x.is) b.2);
 }
 
+-- ---- backslashes that stand for themselves
+
+unended : {A : Type 0} → ends_lone [] ≡ true → A
+unended e = absurd cc
+
+param-lone : (ps : List Part) (x : List ℕ) (l : Bool) → ends_lone (ps ++ param_of x l ∷ []) ≡ true → ⊥
+param-lone ps x true e = not-lone ps (part.Param x param_op.Length false None) (open_part.Param x param_op.Length false None) (outs-Param x param_op.Length false None) tt e
+param-lone ps x false e = not-lone ps (part.Param x param_op.Value false None) (open_part.Param x param_op.Value false None) (outs-Param x param_op.Value false None) tt e
+
+arith-word : (n : ℕ) → mode.Arith n ≡ mode.Word → ⊥
+arith-word n e = cc
+
+bit-lone : {m : Mode} {ts : List Token} (ps : List Part) (b : Bit) (i : IsKnown m) (a : At m (token.Part b ∷ ts)) → ends_lone (ps ++ part_of b ∷ []) ≡ true → Closes ts → (tail i a).text ≡ []
+bit-lone {ts = ts} ps (bit.Piece x) i a e z = lone-ends ts x i a (plain-lone ps x e) z
+bit-lone {ts = ts} ps (bit.Sum x n) i a e z = absurd (arith-word n (in-word ts (inr tt) (tail i a) z))
+bit-lone ps (bit.Escaped x) i a e z = absurd (not-lone ps (part.Escaped x) (open_part.Escaped x) (outs-Escaped x) tt e)
+bit-lone ps (bit.Single x) i a e z = absurd (not-lone ps (part.Single x) (open_part.Single x) (outs-Single x) tt e)
+bit-lone ps (bit.Value x) i a e z = absurd (param-lone ps x false e)
+
+-- Where the word ends, there are no more parts.
+parts-stop : {d : ℕ} {s t : Draft} {ps qs : List Part} {ts rest : List Token} → Parts d s ps ts rest qs t → EndsWord ts → qs ≡ ps
+parts-stop g.parts_end w = refl
+parts-stop (g.one_bit r) w = absurd w
+parts-stop (g.param r) w = absurd w
+parts-stop (g.double q r) w = absurd w
+parts-stop (g.braces q r) w = absurd w
+parts-stop (g.arith q r) w = absurd w
+parts-stop (g.substitution l r) w = absurd w
+parts-stop (g.backquotes l r) w = absurd w
+
+bit-tight : {d : ℕ} {s t : Draft} {qs : List Part} {m : Mode} {ts rest : List Token} {tight : Bool} (ps : List Part) (b : Bit) → Parts d s (ps ++ part_of b ∷ []) ts rest qs t → (i : IsKnown m) (a : At m (token.Part b ∷ ts)) → (ends_lone qs ≡ true → tight ≡ true) →
+    IsLone (token.Part b) → (tail i a).text ≡ [] → tight ≡ true
+bit-tight {m = m} ps (bit.Piece x) r i a h l z = h (ap ends_lone (parts-stop r (ends-there (inside-word m i) (tail i a) z)) ∙ lone-plain ps x l)
+bit-tight ps (bit.Sum x n) r i a h l z = absurd l
+bit-tight ps (bit.Escaped x) r i a h l z = absurd l
+bit-tight ps (bit.Single x) r i a h l z = absurd l
+bit-tight ps (bit.Value x) r i a h l z = absurd l
+
 mutual
-  parts : {e : Draft} (f : ℕ) {d : ℕ} {s s' : Draft} {ps qs : List Part} {ts rest : List Token} {m : Mode} → Parts d s ps ts rest qs s' → s.due ≡ [] → (i : IsKnown m) → (a : At m ts) → From s s' e → Deep m d f →
-      PartsGo e f d s ps rest qs s' m a.text a.flag
-  parts f {m = m} (g.parts_end {ps = ps}) u i a fr dp = record { new = []; is = nil-right ps; due = u; way = m; known = i; there = a; stays = λ q. q; go = λ c us h. (us, g.parts_end, h) }
-  parts zero (g.one_bit r) u i a fr dp = absurd (omega (arith, dp.all))
-  parts {e} (suc f) {m = m} (g.one_bit {ps = ps} {b = b} r) u i a fr dp =
-      let x = parts (suc f) r u (bit-known m b i) (tail i a) fr (record { all = dp.all; out = λ q. dp.out (unquoted-bit m b a.lexed.1.text (seen-is i a) q) }) in record {
+  parts : {e : Draft} (f : ℕ) {d : ℕ} {s s' : Draft} {ps qs : List Part} {ts rest : List Token} {m : Mode} (tight : Bool) → Parts d s ps ts rest qs s' → s.due ≡ [] → (i : IsKnown m) → (a : At m ts) → From s s' e → Deep m d f →
+      (ends_lone qs ≡ true → tight ≡ true) → (ends_lone ps ≡ true → Closes ts → a.text ≡ []) → PartsGo e f d s ps rest qs s' m a.text tight
+  parts f {m = m} tight (g.parts_end {ps = ps}) u i a fr dp hl b = record { new = []; is = nil-right ps; due = u; way = m; known = i; there = a; lone = b; go = λ c us h. (us, g.parts_end, h) }
+  parts zero tight (g.one_bit r) u i a fr dp hl b = absurd (omega (arith, dp.all))
+  parts {e} (suc f) {m = m} tight (g.one_bit {ps = ps} {b = b} r) u i a fr dp hl b0 =
+      let x = parts (suc f) tight r u (bit-known m b i) (tail i a) fr (record { all = dp.all; out = λ q. dp.out (unquoted-bit m b a.lexed.1.text (seen-is i a) q) }) hl (bit-lone ps b i a) in record {
         new = part_of b ∷ x.new;
         is = x.is ∙ append_assoc ps (part_of b ∷ []) x.new;
         due = x.due;
         way = x.way;
         known = x.known;
         there = x.there;
-        stays = x.stays;
-        go = λ c us h. let y = x.go c us h in (token.Part b ∷ y.0, g.one_bit {b = b} y.1, put-bit (filled e) f b i a _ y.0 y.2 (lone b i (inside-word m i) a));
+        lone = x.lone;
+        go = λ c us h. let y = x.go c us h in (token.Part b ∷ y.0, g.one_bit {b = b} y.1, put-bit (filled e) f b i a _ y.0 y.2 (bit-tight ps b r i a hl));
       }
-  parts zero (g.param r) u i a fr dp = absurd (omega (arith, dp.all))
-  parts {e} (suc f) {m = m} (g.param {ps = ps} {x = w} {l = l} r) u i a fr dp =
-      let x = parts (suc f) r u (inside-known m i) (tail i a) fr (record { all = dp.all; out = λ q. dp.out (unquoted-inside m q) }) in record {
+  parts zero tight (g.param r) u i a fr dp hl b = absurd (omega (arith, dp.all))
+  parts {e} (suc f) {m = m} tight (g.param {ps = ps} {x = w} {l = l} r) u i a fr dp hl b0 =
+      let x = parts (suc f) tight r u (inside-known m i) (tail i a) fr (record { all = dp.all; out = λ q. dp.out (unquoted-inside m q) }) hl (λ y z. absurd (param-lone ps w l y)) in record {
         new = param_of w l ∷ x.new;
         is = x.is ∙ append_assoc ps (param_of w l ∷ []) x.new;
         due = x.due;
         way = x.way;
         known = x.known;
         there = x.there;
-        stays = x.stays;
+        lone = x.lone;
         go = λ c us h. let y = x.go c us h in put-param e f w l i a _ y.0 y.1 y.2;
       }
-  parts zero (g.double q r) u i a fr dp = absurd (omega (arith, dp.all))
-  parts {e} (suc f) {m = m} (g.double {ps = ps} {inner = inner} {m = n} q r) u i a fr dp =
+  parts zero tight (g.double q r) u i a fr dp hl b = absurd (omega (arith, dp.all))
+  parts {e} (suc f) {m = m} tight (g.double {ps = ps} {inner = inner} {m = n} q r) u i a fr dp hl b0 =
       let sn = seen-is i a in
       let out = dp.out (unquoted-inside m sn.1) in
-      let x = parts f q u (inr tt) (tail i a) (final.first (frame.parts r) fr) (record { all = omega (arith, out); out = λ z. absurd z }) in
+      let x = parts f true q u (inr tt) (tail i a) (final.first (frame.parts r) fr) (record { all = omega (arith, out); out = λ z. absurd z }) (λ l. refl) unended in
       let nk = subst IsKnown (sym sn.0) (inside-known m i) in
-      let y = parts (suc f) r x.due nk (tail x.known x.there) (final.second (frame.parts q) fr) (record { all = dp.all; out = λ z. out }) in double-go {f = f} {ps = ps} {inner = inner} {n = n} i a x y
-  parts zero (g.braces q r) u i a fr dp = absurd (omega (arith, dp.all))
-  parts {e} (suc f) {m = m} (g.braces {d = d} {ps = ps} {inner = inner} {x = nm} {o = o} {c = k} {q = fl} {m = n} p r) u i a fr dp =
+      let y = parts (suc f) tight r x.due nk (tail x.known x.there) (final.second (frame.parts q) fr) (record { all = dp.all; out = λ z. out }) hl (λ l z. absurd (not-lone ps (part.Double inner) (open_part.Double inner) (outs-Double inner) tt l)) in double-go {f = f} {ps = ps} {inner = inner} {n = n} i a x y
+  parts zero tight (g.braces q r) u i a fr dp hl b = absurd (omega (arith, dp.all))
+  parts {e} (suc f) {m = m} tight (g.braces {d = d} {ps = ps} {inner = inner} {x = nm} {o = o} {c = k} {q = fl} {m = n} p r) u i a fr dp hl b0 =
       let sn = seen-is i a in
-      let x = parts f p u (inr tt) (tail i a) (final.first (frame.parts r) fr) (record { all = omega (arith, dp.all); out = λ z. omega (arith, dp.all) }) in
+      let x = parts f true p u (inr tt) (tail i a) (final.first (frame.parts r) fr) (record { all = omega (arith, dp.all); out = λ z. omega (arith, dp.all) }) (λ l. refl) unended in
       let nk = subst IsKnown (sym sn) (inside-known m i) in
-      let y = parts (suc f) r x.due nk (tail x.known x.there) (final.second (frame.parts p) fr) (record { all = dp.all; out = λ z. dp.out (unquoted-inside m (subst NotQuotes sn z)) }) in braces-go {f = f} {ps = ps} {inner = inner} {n = n} nm o k fl i a x y
-  parts zero (g.arith q r) u i a fr dp = absurd (omega (arith, dp.all))
-  parts {e} (suc f) {m = m} (g.arith {d = d} {ps = ps} {inner = inner} {m = n} p r) u i a fr dp =
+      let y = parts (suc f) tight r x.due nk (tail x.known x.there) (final.second (frame.parts p) fr) (record { all = dp.all; out = λ z. dp.out (unquoted-inside m (subst NotQuotes sn z)) }) hl (λ l z. absurd (not-lone ps (part.Param nm o k (Some (word inner))) (open_part.Param nm o k (Some (word inner))) (outs-Param nm o k (Some (word inner))) tt l)) in braces-go {f = f} {ps = ps} {inner = inner} {n = n} nm o k fl i a x y
+  parts zero tight (g.arith q r) u i a fr dp hl b = absurd (omega (arith, dp.all))
+  parts {e} (suc f) {m = m} tight (g.arith {d = d} {ps = ps} {inner = inner} {m = n} p r) u i a fr dp hl b0 =
       let sn = seen-is i a in
-      let x = parts f p u (inr tt) (tail i a) (final.first (frame.parts r) fr) (record { all = omega (arith, dp.all); out = λ z. omega (arith, dp.all) }) in
+      let x = parts f true p u (inr tt) (tail i a) (final.first (frame.parts r) fr) (record { all = omega (arith, dp.all); out = λ z. omega (arith, dp.all) }) (λ l. refl) unended in
       let nk = subst IsKnown (sym sn) (inside-known m i) in
-      let y = parts (suc f) r x.due nk (tail x.known x.there) (final.second (frame.parts p) fr) (record { all = dp.all; out = λ z. dp.out (unquoted-inside m (subst NotQuotes sn z)) }) in arith-go {f = f} {ps = ps} {inner = inner} {n = n} i a x y
-  parts zero (g.substitution l r) u i a fr dp = absurd (omega (arith, dp.all))
-  parts {e} (suc f) {m = m} (g.substitution {d = d} {s = s} {ps = ps} {is = is} {m = n} l r) u i a fr dp =
+      let y = parts (suc f) tight r x.due nk (tail x.known x.there) (final.second (frame.parts p) fr) (record { all = dp.all; out = λ z. dp.out (unquoted-inside m (subst NotQuotes sn z)) }) hl (λ l z. absurd (not-lone ps (part.Arith (word inner)) (open_part.Arith (word inner)) (outs-Arith (word inner)) tt l)) in arith-go {f = f} {ps = ps} {inner = inner} {n = n} i a x y
+  parts zero tight (g.substitution l r) u i a fr dp hl b = absurd (omega (arith, dp.all))
+  parts {e} (suc f) {m = m} tight (g.substitution {d = d} {s = s} {ps = ps} {is = is} {m = n} l r) u i a fr dp hl b0 =
       let sn = seen-is i a in
       let x = numbered f (next_list s) refl l (final.first (frame.parts r) fr) (omega (arith, dp.all)) (λ x' y'. may_be_list (pred f) l u (tail i a) x' y') in
       let nk = subst IsKnown (sym sn) (inside-known m i) in
-      let y = parts (suc f) r x.due nk (tail (inl x.between) x.there) (final.second (closed_list (next_list s) is refl (frame.may_be_list l)) fr)
-      (record { all = dp.all; out = λ z. dp.out (unquoted-inside m (subst NotQuotes sn z)) }) in substitution-go {f = f} {s = s} {ps = ps} {n = n} i a x y
-  parts f (g.backquotes l r) u i a fr dp = absurd a.plain.0
+      let y = parts (suc f) tight r x.due nk (tail (inl x.between) x.there) (final.second (closed_list (next_list s) is refl (frame.may_be_list l)) fr)
+      (record { all = dp.all; out = λ z. dp.out (unquoted-inside m (subst NotQuotes sn z)) }) hl (λ y z. absurd (not-lone ps (part.Command (next_list s)) (open_part.Command (next_list s)) (outs-Command (next_list s)) tt y)) in substitution-go {f = f} {s = s} {ps = ps} {n = n} i a x y
+  parts f tight (g.backquotes l r) u i a fr dp hl b = absurd a.plain.0
 
   redirs : {e : Draft} (f : ℕ) {d : ℕ} {s s' : Draft} {rs rs' : List Redir} {ts rest : List Token} {m : Mode} → Redirs d s rs ts rest rs' s' → s.due ≡ [] → (i : IsBetween m) → (a : At m ts) → From s s' e → 3 * d + 2 ≤ f →
       RedirsGo e f d s rs ts rest rs' s'
   redirs f {m = m} (g.no_redir {rs = rs}) u i a fr h = record { new = []; is = nil-right rs; clear = refl; due = u; way = m; between = i; there = a; go = λ k us rd en. (us, g.no_redir, rd, en) }
   redirs {e} f {m = m} (g.one_redir {rs = rs} (g.file {fd = fd} {o = o} {ps = ps} p nz) r) u i a fr h =
-      let x = parts f p u (inl tt) (tail (inl i) a) (final.first (frame.redirs r) fr) (record { all = omega (arith, h); out = λ q. h }) in
+      let x = parts f (ends_lone ps) p u (inl tt) (tail (inl i) a) (final.first (frame.redirs r) fr) (record { all = omega (arith, h); out = λ q. h }) (λ l. l) unended in
       let y = redirs f r x.due tt (tail x.known x.there) (final.second (frame.parts p) fr) h in redirs-go {f = f} {rs = rs} fd o {ps = ps} i a nz x y
   redirs f (g.one_redir g.here r) u i a fr h = absurd a.plain.0
 
-  elements : {e : Draft} (f : ℕ) {d : ℕ} {s s' : Draft} {c c' : Simple} {ts rest : List Token} {m : Mode} (s0 : Draft) → Standing m c.words → Elements d s c ts rest c' s' → s.due ≡ [] → (i : IsBetween m) →
-      (a : At m ts) → From s s' e → 3 * d + 2 ≤ f → ElementsGo e f d s0 s c rest c' s' m ts
-  elements f {d} {m = m} s0 st (g.no_element {s = s} {c = c}) u i a fr h = record {
+  elements : {e : Draft} (f : ℕ) {d : ℕ} {s s' : Draft} {c c' : Simple} {ts rest : List Token} {m : Mode} → Standing m c.words → Elements d s c ts rest c' s' → s.due ≡ [] → (i : IsBetween m) →
+      (a : At m ts) → From s s' e → 3 * d + 2 ≤ f → ElementsGo e f d s c rest c' s' m ts
+  elements f {d} {m = m} st (g.no_element {s = s} {c = c}) u i a fr h = record {
     assigns = [];
     words = [];
     redirs = [];
@@ -1277,46 +1512,49 @@ mutual
     way = m;
     between = i;
     there = a;
+    least = tt;
+    mid = s;
+    early = no_early;
+    ends = λ n k. absurd n;
     go = λ rs k us rd en. (
       us,
-      subst (λ (q : Simple). Elements d s (simple_of c.assigns c.words rs) us us q s) (simple-nil (simple_of c.assigns c.words rs)) g.no_element,
+      subst (λ (q : List Redir). Elements d s (simple_of c.assigns c.words rs) us us (simple_of (c.assigns ++ []) (c.words ++ []) q) s) (nil-right rs)
+          (subst (λ (q : Simple). Elements d s (simple_of c.assigns c.words rs) us us q s) (simple-nil (simple_of c.assigns c.words rs)) g.no_element),
       record { behind = rd.any (mode_before c.words) (before-between c.words); same = λ n. rd.any m i; shut = rd.shut; firm = rd.firm },
       en,
     );
-    ahead = λ rs x us vs q v sr p l sh fm. (us, subst (λ (r : List Redir). Elements d s0 (simple_of [] [] r) us vs q v) (sym (nil-right rs)) p, record { behind = l; same = λ n. absurd (n refl); shut = sh; firm = fm });
   }
-  elements {e} f {m = m} s0 st (g.assign {c = c} {x = nm} {ps = ps} {rest = rest} p r) u i a fr h =
-      let x = parts f p u (inr tt) (tail (inl i) a) (final.first (frame.elements r) fr) (record { all = omega (arith, h); out = λ q. h }) in
+  elements {e} f {m = m} st (g.assign {c = c} {x = nm} {ps = ps} {rest = rest} p r) u i a fr h =
+      let x = parts f true p u (inr tt) (tail (inl i) a) (final.first (frame.elements r) fr) (record { all = omega (arith, h); out = λ q. h }) (λ l. refl) unended in
       let z = tail x.known x.there in
-      let y = elements f s0 (inl (sym (standing-prefix m c.words st (seen-is (inl i) a)))) r x.due tt z (final.second (frame.parts p) fr) h in
-      assign-go {f = f} {c = c} {ps = ps} nm i a st x y
-  elements {e} f {m = m} s0 st (g.argument {c = c} {ps = ps} {rest = rest} p nz r) u i a fr h =
-      let x = parts f p u (inl i) a (final.first (frame.elements r) fr) (record { all = omega (arith, h); out = λ q. h }) in
+      let y = elements f (inl (sym (standing-prefix m c.words st (seen-is (inl i) a)))) r x.due tt z (final.second (frame.parts p) fr) h in
+      assign-go {f = f} {c = c} {ps = ps} nm i a st (begins-in p) x y
+  elements {e} f {m = m} st (g.argument {c = c} {ps = ps} {rest = rest} p nz r) u i a fr h =
+      let x = parts f true p u (inl i) a (final.first (frame.elements r) fr) (record { all = omega (arith, h); out = λ q. h }) (λ l. refl) unended in
       let z = tail x.known x.there in
-      let y = elements f s0 (inl (sym (before-some c.words (word ps)))) r x.due tt z (final.second (frame.parts p) fr) h in
-      argument-go {f = f} {c = c} {ps = ps} i a nz st (starts p nz) x y
-  elements {e} f {m = m} s0 st (g.redirection {c = c} {rest = rest} (g.file {fd = fd} {o = o} {ps = ps} p nz) r) u i a fr h =
+      let y = elements f (inl (sym (before-some c.words (word ps)))) r x.due tt z (final.second (frame.parts p) fr) h in
+      argument-go {f = f} {c = c} {ps = ps} i a nz st (starts p nz) (begins-in p) x y
+  elements {e} f {m = m} st (g.redirection {c = c} {rest = rest} (g.file {fd = fd} {o = o} {ps = ps} p nz) r) u i a fr h =
       let a1 = tail (inl i) a in
-      let k = free p a1.plain in
-      let x = parts f p u (inl tt) a1 (final.first (frame.elements r) fr) (record { all = omega (arith, h); out = λ q. h }) in
-      let y = elements f s0 (inl refl) r x.due (before-between c.words) (tail x.known x.there) (final.second (frame.parts p) fr) h in
-      redirection-go {f = f} {c = c} fd o {ps = ps} i a nz refl k.0 (before-between c.words) (λ sr. elements-stops r sr) st x y
-  elements f s0 st (g.redirection g.here r) u i a fr h = absurd a.plain.0
+      let x = parts f (ends_lone ps) p u (inl tt) a1 (final.first (frame.elements r) fr) (record { all = omega (arith, h); out = λ q. h }) (λ l. l) unended in
+      let y = elements f (inl refl) r x.due (before-between c.words) (tail x.known x.there) (final.second (frame.parts p) fr) h in
+      any_redirection-go {f = f} {c = c} (ends_lone ps) fd o {ps = ps} i a nz refl (before-between c.words) st (begins-in p) refl r x y
+  elements f st (g.redirection g.here r) u i a fr h = absurd a.plain.0
 
   for_words : {e : Draft} (f : ℕ) {d : ℕ} {s s' : Draft} {ws vs : List Word} {ts rest : List Token} → ForWords d s ws ts rest vs s' → s.due ≡ [] → (a : At mode.Arguments ts) → From s s' e → 3 * d + 2 ≤ f →
       ForWordsGo e f d s ws rest vs s' a.text
   for_words f (g.no_word {ws = ws}) u a fr h = record { new = []; is = nil-right ws; due = u; there = a; go = λ k us x. (us, g.no_word, x) }
   for_words {e} f (g.one_word {ws = ws} {ps = ps} p nz r) u a fr h =
-      let x = parts f p u (inl tt) a (final.first (frame.for_words r) fr) (record { all = omega (arith, h); out = λ q. h }) in
+      let x = parts f true p u (inl tt) a (final.first (frame.for_words r) fr) (record { all = omega (arith, h); out = λ q. h }) (λ l. refl) unended in
       let y = for_words f r x.due (tail x.known x.there) (final.second (frame.parts p) fr) h in for_word-go {f = f} {ws = ws} {ps = ps} a nz (starts p nz) x y
 
   patterns : {e : Draft} (f : ℕ) {d : ℕ} {s s' : Draft} {ws vs : List Word} {ts rest : List Token} {m : Mode} → Patterns d s ws ts rest vs s' → s.due ≡ [] → IsBetween m → (a : At m ts) → From s s' e → 3 * d + 2 ≤ f →
       PatternsGo e f d s ws rest vs s' m
   patterns {e} f {m = m} (g.last_pattern {ws = ws} {ps = ps} p nz) u i a fr h =
-      let x = parts f p u (inl i) a fr (record { all = omega (arith, h); out = λ q. h }) in
+      let x = parts f true p u (inl i) a fr (record { all = omega (arith, h); out = λ q. h }) (λ l. refl) unended in
       let z = tail x.known x.there in last_pattern-go {f = f} {ws = ws} {ps = ps} a nz x
   patterns {e} f {m = m} (g.more_patterns {ws = ws} {ps = ps} p nz r) u i a fr h =
-      let x = parts f p u (inl i) a (final.first (frame.patterns r) fr) (record { all = omega (arith, h); out = λ q. h }) in
+      let x = parts f true p u (inl i) a (final.first (frame.patterns r) fr) (record { all = omega (arith, h); out = λ q. h }) (λ l. refl) unended in
       let z = tail x.known x.there in
       let y = patterns f r x.due tt (tail (inl tt) z) (final.second (frame.parts p) fr) h in more_patterns-go {f = f} {ws = ws} {ps = ps} a nz x y
 
@@ -1431,13 +1669,13 @@ mutual
       let y = numbered_list f (next_list t) refl l (final.second (frame.may_separate z) fr) (omega (arith, h)) (λ x' y'. in_list (pred f) l (still-due j.0 u) (tail (inl tt) j.1) x' y') in for_parameters-go {f = f} {t = t} nm nn j.0 (λ c. may_separate-ends c z tt) a1 y
   one_compound {e} f (g.case_command {ps = ps} {arms = xs} p nz n r) u a fr h =
       let a1 = tail (inl tt) a in
-      let x = parts f p u (inl tt) a1 (final.first (frame.then (frame.newlines n) (frame.arms r)) fr) (record { all = omega (arith, h); out = λ q. omega (arith, h) }) in
+      let x = parts f true p u (inl tt) a1 (final.first (frame.then (frame.newlines n) (frame.arms r)) fr) (record { all = omega (arith, h); out = λ q. omega (arith, h) }) (λ l. refl) unended in
       let a3 = tail x.known x.there in
       let k = newlines n tt x.due a3 in
       let y = arms f r (still-due k.0 x.due) (tail (inl tt) k.1) (final.second (frame.then (frame.parts p) (frame.newlines n)) fr) (omega (arith, h)) in case-go {f = f} {ps = ps} nz k.0 (λ c. newlines-ends c n tt) a1 x y
 
   one_command : {e : Draft} (f : ℕ) {d : ℕ} {s s' : Draft} {x : Command} {ts rest : List Token} → OneCommand d s ts rest x s' → s.due ≡ [] → At mode.Command ts → From s s' e → 3 * d + 2 ≤ f → CommandGo e f d s rest x s'
-  one_command {e} f (g.simple_command {s = s} {c = c} q nz) u a fr h = simple-go {f = f} {c = c} nz (elements f s (inr (refl, refl)) q u tt a fr h)
+  one_command {e} f (g.simple_command {s = s} {c = c} q nz) u a fr h = simple-go {f = f} {c = c} nz (elements f (inr (refl, refl)) q u tt a fr h)
   one_command {e} f (g.compound_command {x = cx} {rs = rs} q r) u a fr h =
       let x = one_compound f q u a (final.first (frame.redirs r) fr) h in
       let y = redirs f r x.due tt x.there (final.second (frame.one_compound q) fr) h in compound-go {f = f} {cx = cx} {rs = rs} x y
@@ -1514,9 +1752,9 @@ mutual
       let x = in_list f l u a fr h in record { due = x.due; way = x.way; between = x.between; there = x.there; go = λ c us rd en. let y = x.go c us us rd en at_once in (y.0, g.some y.1, y.2) }
 
 -- What is written of a script spells it, where plain tokens spell it.
-pub plainly : {s : Script} {ts : List Token} (text : List ℕ) → ParsesWithin max_nesting s ts → ArePlain false ts → Lexes mode.Command (source text []) ts → Spells s (script_text s)
+pub plainly : {s : Script} {ts : List Token} (text : List ℕ) → ParsesWithin max_nesting s ts → ArePlain ts → Lexes mode.Command (source text []) ts → Spells s (script_text s)
 plainly text (g.script {s = t} {is = is} l u) p x =
-    let a : At mode.Command _ = record { text = text; lexed = x; flag = false; plain = p } in
+    let a : At mode.Command _ = record { text = text; lexed = x; plain = p } in
     let y = numbered {e = end_list 0 is t} deepest 0 refl l (final.whole no_draft (end_list 0 is t)) (omega arith) (λ x' y'. may_be_list (pred deepest) l refl a x' y') in
     let z = y.go [] [] ready-nil refl in
     record { tokens = z.0; lexed = z.2; parsed = g.script z.1 u }

@@ -1,5 +1,5 @@
 -- Steps that are written from the last one to the first.
-use Rattle.std.proofs.Common.{◌≡◌, ℕ, zero, suc, false, List, [], ◌∷◌, ◌++◌, refl, ap, sym, ◌∙◌, subst, arith}
+use Rattle.std.proofs.Common.{◌≡◌, ℕ, zero, suc, List, [], ◌∷◌, ◌++◌, refl, ap, sym, ◌∙◌, subst, arith}
 use Rattle.std.specs.Prelude.{Result, Ok, Err, OnOk}
 use Rattle.sh_syntax.specs.declared.tree.Part.{Part}
 use Rattle.sh_syntax.specs.declared.tree.Script.{Script}
@@ -46,5 +46,5 @@ on_ok (Ok x) P Q h f = f h
 on_ok (Err e) P Q h f = tt
 
 -- The text of a script spells it, where a plain text does.
-pub spelled : (s : Script) (text : List ℕ) → text ≡ script_text s → (ts : List Token) (other : List ℕ) → Lexes mode.Command (source other []) ts → Parses s ts → ArePlain false ts → Spells s text
+pub spelled : (s : Script) (text : List ℕ) → text ≡ script_text s → (ts : List Token) (other : List ℕ) → Lexes mode.Command (source other []) ts → Parses s ts → ArePlain ts → Spells s text
 spelled s text e ts other l p h = subst (λ (x : List ℕ). Spells s x) (sym e) (plainly other p h l)

@@ -24,8 +24,8 @@ use Rattle.sh_lexer.specs.declared.token.Opener.TheVariants as opener
 use Rattle.sh_lexer.specs.declared.token.End.{End}
 use Rattle.sh_lexer.specs.declared.token.End.TheVariants as end
 use Rattle.sh_grammar.specs.Grammar.{join_op}
-use Rattle.sh_spell.specs.Scripts.{each, operator, opening, ending, alone_text, opened_with, word_with, redir_with, assign_with, branch_with, elif_with, branches_with, else_with, more_pattern, patterns_with, arm_with, for_words_with, compound_with, body_with, command_with, piped, stages_with, bang_text, leaf_with, leaf_of, join_with, and_or_with, next_item, items_with, part_text, list_text}
-use Rattle.sh_spell.specs.Steps.{Step, token_step, part_step, list_step, step_with, step_text, op_step, end_step, all_steps, parts_steps, alone_steps, opened_steps, part_steps, word_steps, redir_steps, assign_steps, listed_steps, branch_steps, elif_steps, branches_steps, else_steps, more_pattern_steps, patterns_steps, arm_steps, for_words_steps, compound_steps, body_steps, command_steps, piped_steps, stages_steps, bang_steps, leaf_steps, leaf_steps_of, join_steps, and_or_steps, next_item_steps, items_steps, list_steps}
+use Rattle.sh_spell.specs.Scripts.{each, operator, opening, ending, alone_text, opened_with, word_with, redir_with, assign_with, branch_with, elif_with, branches_with, else_with, more_pattern, patterns_with, arm_with, for_words_with, words_list, assigns_list, going, waiting, words_with, assigns_with, simple_with, compound_with, body_with, command_with, piped, stages_with, bang_text, leaf_with, leaf_of, join_with, and_or_with, next_item, items_with, part_text, list_text}
+use Rattle.sh_spell.specs.Steps.{Step, token_step, part_step, list_step, step_with, step_text, op_step, end_step, all_steps, parts_steps, alone_steps, opened_steps, part_steps, word_steps, redir_steps, assign_steps, listed_steps, branch_steps, elif_steps, branches_steps, else_steps, more_pattern_steps, patterns_steps, arm_steps, for_words_steps, compound_steps, body_steps, words_steps, assigns_steps, simple_steps, command_steps, piped_steps, stages_steps, bang_steps, leaf_steps, leaf_steps_of, join_steps, and_or_steps, next_item_steps, items_steps, list_steps}
 
 abbrev Writes : Type 0
 Writes = List ℕ → List ℕ
@@ -136,12 +136,29 @@ body-if : (p : Part → Writes) (l : ℕ → Writes) (o : Option Command) (c : L
 body-if p l None c = refl
 body-if p l (Some x) c = body-run p l x c
 
+-- redirections before what is behind them
+front-run : (p : Part → Writes) (l : ℕ → Writes) (rs : List Redir) (xs : List Step) (c k : List ℕ) → run p l xs c ≡ k → run p l (all_steps redir_steps rs ++ xs) c ≡ each (redir_with p) rs k
+front-run p l rs xs c k e = after p l (all_steps redir_steps rs) xs c ∙ (redirs-run p l rs (run p l xs c) ∙ ap (each (redir_with p) rs) e)
+
+words_with-run : (p : Part → Writes) (l : ℕ → Writes) (ws : List Word) (rs : List Redir) (c : List ℕ) → run p l (words_steps ws rs) c ≡ words_with p ws rs c
+words_with-run p l [] rs c = redirs-run p l rs c
+words_with-run p l (w ∷ ws) rs c =
+    let k = all_steps redir_steps (going (words_list ws) rs) ++ words_steps ws (waiting (words_list ws) rs) in
+    after p l (word_steps w) k c ∙ (word-run p l w (run p l k c)
+    ∙ ap (word_with p w) (front-run p l (going (words_list ws) rs) (words_steps ws (waiting (words_list ws) rs)) c _ (words_with-run p l ws (waiting (words_list ws) rs) c)))
+
+assigns_with-run : (p : Part → Writes) (l : ℕ → Writes) (xs : List (List ℕ × Word)) (ws : List Word) (rs : List Redir) (c : List ℕ) → run p l (assigns_steps xs ws rs) c ≡ assigns_with p xs ws rs c
+assigns_with-run p l [] ws rs c = words_with-run p l ws rs c
+assigns_with-run p l (a ∷ xs) ws rs c =
+    let o = assigns_list xs ws in
+    let k = all_steps redir_steps (going o rs) ++ assigns_steps xs ws (waiting o rs) in
+    after p l (assign_steps a) k c ∙ (assign-run p l a (run p l k c) ∙ ap (assign_with p a) (front-run p l (going o rs) (assigns_steps xs ws (waiting o rs)) c _ (assigns_with-run p l xs ws (waiting o rs) c)))
+
+simple-run : (p : Part → Writes) (l : ℕ → Writes) (xs : List (List ℕ × Word)) (ws : List Word) (rs : List Redir) (c : List ℕ) → run p l (simple_steps xs ws rs) c ≡ simple_with p xs ws rs c
+simple-run p l xs ws rs c = let o = assigns_list xs ws in front-run p l (going o rs) (assigns_steps xs ws (waiting o rs)) c _ (assigns_with-run p l xs ws (waiting o rs) c)
+
 command-run : (s : Script) (p : Part → Writes) (l : ℕ → Writes) (x : Command) (c : List ℕ) → run p l (command_steps s x) c ≡ command_with s p l x c
-command-run s p l (command.Simple xs ws rs) c =
-    after p l (all_steps redir_steps rs) (all_steps assign_steps xs ++ all_steps word_steps ws) c
-    ∙ (redirs-run p l rs (run p l (all_steps assign_steps xs ++ all_steps word_steps ws) c)
-    ∙ ap (each (redir_with p) rs) (after p l (all_steps assign_steps xs) (all_steps word_steps ws) c
-    ∙ (all-run p l assign_steps (assign_with p) (assign-run p l) xs (run p l (all_steps word_steps ws) c) ∙ ap (each (assign_with p) xs) (words-run p l ws c))))
+command-run s p l (command.Simple xs ws rs) c = simple-run p l xs ws rs c
 command-run s p l (command.Compound x rs) c = redirected-run p l x rs c
 command-run s p l (command.Function x n) c =
     ap (λ (z : List ℕ). run p l (token_step (token.Function x) ∷ op_step op.Open ∷ op_step op.Close ∷ []) z) (body-if p l (slice_get s.bodies n) c)

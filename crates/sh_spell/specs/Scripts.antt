@@ -1,9 +1,9 @@
 -- How scripts are written: each thing is put before the text c that comes behind it. Tokens are written as everywhere; how they
 -- are read doesn't tell in their text, and stands here as Word.
-use Rattle.std.specs.Prelude.{ℕ, zero, suc, Bool, true, false, not, List, [], ◌∷◌, Option, Some, None, slice_get, if◌then◌else◌}
-use Rattle.sh_syntax.specs.declared.tree.Part.{Part, out-Part}
+use Rattle.std.specs.Prelude.{ℕ, zero, suc, Bool, true, false, not, ◌==◌, ◌&&◌, nat_lt, List, [], ◌∷◌, map, Option, Some, None, slice_get, if◌then◌else◌}
+use Rattle.sh_syntax.specs.declared.tree.Part.{Part, out-Part, fold-Part}
 use Rattle.sh_syntax.specs.declared.tree.Part.TheOpen as open_part
-use Rattle.sh_syntax.specs.declared.tree.Part.TheOpen.{Part-F}
+use Rattle.sh_syntax.specs.declared.tree.Part.TheOpen.{Part-F, Word-F}
 use Rattle.sh_syntax.specs.declared.tree.ParamOp.{ParamOp}
 use Rattle.sh_syntax.specs.declared.tree.ParamOp.TheVariants as param_op
 use Rattle.sh_syntax.specs.declared.tree.Word.{Word}
@@ -99,6 +99,122 @@ redir_with p r c = written (token.Redirect r.fd r.op) (word_with p r.word c)
 abbrev pub assign_with : (Part → Before) → List ℕ × Word → Before
 assign_with p a c = written (token.Assign a.0) (word_with p a.1 c)
 
+-- ---- lists in words, which are numbered in the order in which they begin
+
+abbrev pub or_first : Option ℕ → Option ℕ → Option ℕ
+or_first None o = o
+or_first (Some n) o = Some n
+
+abbrev pub first_of : List (Option ℕ) → Option ℕ
+first_of [] = None
+first_of (o ∷ os) = or_first o (first_of os)
+
+abbrev pub first_if : Option (Option ℕ) → Option ℕ
+first_if None = None
+first_if (Some o) = o
+
+-- the first list in a part, where those of the parts in it are known
+abbrev pub layer_list : Part-F (Option ℕ) (Option ℕ) → Option ℕ
+layer_list o = elim o [
+  | open_part.Plain x ↦ None
+  | open_part.Single x ↦ None
+  | open_part.Escaped b ↦ None
+  | open_part.Double os ↦ first_of os
+  | open_part.Param x o colon w ↦ first_if w
+  | open_part.Command n ↦ Some n
+  | open_part.Arith o ↦ o
+]
+
+abbrev pub inner_list : Word-F (Option ℕ) (Option ℕ) → Option ℕ
+inner_list w = first_of w.parts
+
+abbrev pub part_list : Part → Option ℕ
+part_list q = fold-Part (Option ℕ) (Option ℕ) layer_list inner_list q
+
+abbrev pub parts_list : List Part → Option ℕ
+parts_list ps = first_of (map part_list ps)
+
+abbrev pub word_list : Word → Option ℕ
+word_list w = parts_list w.parts
+
+abbrev pub operand_list : Option Word → Option ℕ
+operand_list None = None
+operand_list (Some w) = word_list w
+
+abbrev pub words_list : List Word → Option ℕ
+words_list [] = None
+words_list (w ∷ ws) = or_first (word_list w) (words_list ws)
+
+-- in assignments and the words behind them
+abbrev pub assigns_list : List (List ℕ × Word) → List Word → Option ℕ
+assigns_list [] ws = words_list ws
+assigns_list (a ∷ xs) ws = or_first (word_list a.1) (assigns_list xs ws)
+
+-- ---- where redirections stand among assignments and words
+
+abbrev pub is_backslash : List ℕ → Bool
+is_backslash [] = false
+is_backslash (b ∷ []) = b == 92
+is_backslash (b ∷ c ∷ x) = false
+
+abbrev pub lone_of : Part-F Part Word → Bool
+lone_of o = elim o [
+  | open_part.Plain x ↦ is_backslash x
+  | open_part.Single x ↦ false
+  | open_part.Escaped b ↦ false
+  | open_part.Double ps ↦ false
+  | open_part.Param x o colon w ↦ false
+  | open_part.Command n ↦ false
+  | open_part.Arith w ↦ false
+]
+
+-- a backslash that stands for itself, as it may at the very end of a text
+abbrev pub is_lone : Part → Bool
+is_lone q = lone_of (out-Part q)
+
+abbrev pub ends_lone : List Part → Bool
+ends_lone [] = false
+ends_lone (q ∷ []) = is_lone q
+ends_lone (q ∷ p ∷ ps) = ends_lone (p ∷ ps)
+
+-- whether a list that begins there, if any does, comes before the other one
+abbrev pub is_sooner : Option ℕ → Option ℕ → Bool
+is_sooner None o = true
+is_sooner (Some n) None = true
+is_sooner (Some n) (Some k) = nat_lt n k
+
+-- A redirection stands before what is left of a command, unless a list that is left comes before its first one, or it ends in
+-- a backslash behind which nothing may be written.
+abbrev pub goes_first : Option ℕ → Redir → Bool
+goes_first o r = not (ends_lone r.word.parts) && is_sooner (word_list r.word) o
+
+-- those at the front that stand before what is left, where o is the first list that is left
+abbrev pub going : Option ℕ → List Redir → List Redir
+going o [] = []
+going o (r ∷ rs) = if goes_first o r then r ∷ going o rs else []
+
+abbrev pub front_list : List Redir → Option ℕ
+front_list [] = None
+front_list (r ∷ rs) = word_list r.word
+
+-- and those that wait
+abbrev pub waiting : Option ℕ → List Redir → List Redir
+waiting o [] = []
+waiting o (r ∷ rs) = if goes_first o r then waiting o rs else r ∷ rs
+
+-- words, where the redirections wait for the first one
+abbrev pub words_with : (Part → Before) → List Word → List Redir → Before
+words_with p [] rs c = each (redir_with p) rs c
+words_with p (w ∷ ws) rs c = word_with p w (each (redir_with p) (going (words_list ws) rs) (words_with p ws (waiting (words_list ws) rs) c))
+
+abbrev pub assigns_with : (Part → Before) → List (List ℕ × Word) → List Word → List Redir → Before
+assigns_with p [] ws rs c = words_with p ws rs c
+assigns_with p (a ∷ xs) ws rs c =
+    assign_with p a (each (redir_with p) (going (assigns_list xs ws) rs) (assigns_with p xs ws (waiting (assigns_list xs ws) rs) c))
+
+abbrev pub simple_with : (Part → Before) → List (List ℕ × Word) → List Word → List Redir → Before
+simple_with p xs ws rs c = each (redir_with p) (going (assigns_list xs ws) rs) (assigns_with p xs ws (waiting (assigns_list xs ws) rs) c)
+
 -- a list in a compound command, and the word behind it
 abbrev pub listed : (ℕ → Before) → ℕ → Op → Before
 listed l n o c = l n (operator op.Semi (operator o c))
@@ -149,7 +265,7 @@ abbrev pub body_of : Script → (Part → Before) → (ℕ → Before) → ℕ �
 body_of s p l n c = elim (slice_get s.bodies n) [ None ↦ c | Some x ↦ body_with p l x c ]
 
 abbrev pub command_with : Script → (Part → Before) → (ℕ → Before) → Command → Before
-command_with s p l (command.Simple assigns ws rs) c = each (redir_with p) rs (each (assign_with p) assigns (each (word_with p) ws c))
+command_with s p l (command.Simple assigns ws rs) c = simple_with p assigns ws rs c
 command_with s p l (command.Compound x rs) c = body_with p l (command.Compound x rs) c
 command_with s p l (command.Function x n) c = written (token.Function x) (operator op.Open (operator op.Close (body_of s p l n c)))
 

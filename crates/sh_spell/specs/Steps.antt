@@ -27,7 +27,7 @@ use Rattle.sh_lexer.specs.declared.token.End.TheVariants as end
 use Rattle.sh_lexer.specs.declared.token.Mode.TheVariants as mode
 use Rattle.sh_grammar.specs.Grammar.{loop_op, join_op}
 use Rattle.sh_spell.specs.Layout.{written}
-use Rattle.sh_spell.specs.Scripts.{value_text, part_text, list_text}
+use Rattle.sh_spell.specs.Scripts.{value_text, words_list, assigns_list, going, waiting, part_text, list_text}
 
 pub data Step : Type 0 where
   token_step : Token → Step
@@ -168,8 +168,18 @@ body_steps x = []
 abbrev pub body_steps_of : Script → ℕ → List Step
 body_steps_of s n = elim (slice_get s.bodies n) [ None ↦ [] | Some x ↦ body_steps x ]
 
+-- words, where the redirections wait for the first one
+abbrev pub words_steps : List Word → List Redir → List Step
+words_steps [] rs = all_steps redir_steps rs
+words_steps (w ∷ ws) rs = word_steps w ++ (all_steps redir_steps (going (words_list ws) rs) ++ words_steps ws (waiting (words_list ws) rs))
+
+abbrev pub assigns_steps : List (List ℕ × Word) → List Word → List Redir → List Step
+assigns_steps [] ws rs = words_steps ws rs
+assigns_steps (a ∷ xs) ws rs =
+    assign_steps a ++ (all_steps redir_steps (going (assigns_list xs ws) rs) ++ assigns_steps xs ws (waiting (assigns_list xs ws) rs))
+
 abbrev pub simple_steps : List (List ℕ × Word) → List Word → List Redir → List Step
-simple_steps assigns ws rs = all_steps redir_steps rs ++ (all_steps assign_steps assigns ++ all_steps word_steps ws)
+simple_steps xs ws rs = all_steps redir_steps (going (assigns_list xs ws) rs) ++ assigns_steps xs ws (waiting (assigns_list xs ws) rs)
 
 abbrev pub function_steps : Script → List ℕ → ℕ → List Step
 function_steps s x n = token_step (token.Function x) ∷ op_step op.Open ∷ op_step op.Close ∷ body_steps_of s n

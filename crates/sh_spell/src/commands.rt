@@ -1,31 +1,18 @@
 //! The steps of commands (POSIX.1-2017, XCU 2.9).
 
 ghost use Rattle.std.specs.Prelude.{◌≡◌, ◌++◌, OnOk};
+ghost use Rattle.sh_spell.specs.Scripts as scripts;
 ghost use Rattle.sh_spell.specs.Steps as spec;
 
 use crate::compounds::push_compound;
+use crate::numbers::{assigns_list, list_behind, list_behind_assign};
+use crate::redirs::{Waiting, push_going, push_redirs, wait};
 use crate::step::Steps;
-use crate::words::{push_word, push_words};
+use crate::words::push_word;
 use hs_text::Text;
 use sh_lexer::{Op, Token};
 use sh_syntax::{Command, Redir, Script, Word};
 use std::alloc::AllocError;
-
-fn push_redir<'a>(steps: &mut Steps<'a>, redir: &'a Redir) -> Result<(), AllocError>
-    ensures { OnOk result (steps.new ≡ steps.old ++ spec.redir_steps redir.now) }
-{
-    steps.push_token(Token::Redirect(redir.fd, redir.op))?;
-    push_word(steps, &redir.word)
-}
-
-fn push_redirs<'a>(steps: &mut Steps<'a>, redirs: &'a [Redir]) -> Result<(), AllocError>
-    ensures { OnOk result (steps.new ≡ steps.old ++ spec.all_steps spec.redir_steps redirs.now) }
-{
-    for redir in redirs {
-        push_redir(steps, redir)?;
-    }
-    Ok(())
-}
 
 fn push_assign<'a>(steps: &mut Steps<'a>, assign: &'a (Text, Word)) -> Result<(), AllocError>
     ensures { OnOk result (steps.new ≡ steps.old ++ spec.assign_steps assign.now) }
@@ -35,13 +22,51 @@ fn push_assign<'a>(steps: &mut Steps<'a>, assign: &'a (Text, Word)) -> Result<()
     push_word(steps, word)
 }
 
-fn push_assigns<'a>(steps: &mut Steps<'a>, assigns: &'a [(Text, Word)]) -> Result<(), AllocError>
-    ensures { OnOk result (steps.new ≡ steps.old ++ spec.all_steps spec.assign_steps assigns.now) }
+/// Words, where redirections wait for the first one. The first list in the words is given.
+fn push_words_with<'a>(
+    steps: &mut Steps<'a>,
+    words: &'a [Word],
+    redirs: Waiting<'a>,
+    first: Option<u32>,
+) -> Result<(), AllocError>
+    requires list { redirs.list ≡ scripts.front_list redirs.redirs.now }
+    requires first { first ≡ scripts.words_list words.now }
+    ensures { OnOk result (steps.new ≡ steps.old ++ spec.words_steps words.now redirs.entry.redirs.now) }
 {
-    for assign in assigns {
-        push_assign(steps, assign)?;
+    let mut waiting = redirs;
+    let mut next = first;
+    let mut left = words;
+    'words: while let Some((word, rest)) = left.split_first() {
+        push_word(steps, word)?;
+        next = list_behind(word, rest, next);
+        waiting = push_going(steps, waiting, next)?;
+        left = rest;
     }
-    Ok(())
+    push_redirs(steps, waiting.redirs)
+}
+
+/// Assignments and words, where redirections wait for the first one. The first list in them is given.
+fn push_assigns_with<'a>(
+    steps: &mut Steps<'a>,
+    assigns: &'a [(Text, Word)],
+    words: &'a [Word],
+    redirs: Waiting<'a>,
+    first: Option<u32>,
+) -> Result<(), AllocError>
+    requires list { redirs.list ≡ scripts.front_list redirs.redirs.now }
+    requires first { first ≡ scripts.assigns_list assigns.now words.now }
+    ensures { OnOk result (steps.new ≡ steps.old ++ spec.assigns_steps assigns.now words.now redirs.entry.redirs.now) }
+{
+    let mut waiting = redirs;
+    let mut next = first;
+    let mut left = assigns;
+    'assigns: while let Some((assign, rest)) = left.split_first() {
+        push_assign(steps, assign)?;
+        next = list_behind_assign(assign, rest, words, next);
+        waiting = push_going(steps, waiting, next)?;
+        left = rest;
+    }
+    push_words_with(steps, words, waiting, next)
 }
 
 /// What a function runs: a compound command with its redirections.
@@ -93,9 +118,9 @@ fn push_simple<'a>(
 ) -> Result<(), AllocError>
     ensures { OnOk result (steps.new ≡ steps.old ++ spec.simple_steps assigns.now words.now redirs.now) }
 {
-    push_redirs(steps, redirs)?;
-    push_assigns(steps, assigns)?;
-    push_words(steps, words)
+    let first = assigns_list(assigns, words);
+    let waiting = push_going(steps, wait(redirs), first)?;
+    push_assigns_with(steps, assigns, words, waiting, first)
 }
 
 pub fn push_command<'a>(

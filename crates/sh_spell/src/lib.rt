@@ -6,6 +6,8 @@ mod commands;
 mod compounds;
 mod lists;
 mod names;
+mod numbers;
+mod redirs;
 mod script;
 mod sheet;
 mod step;

@@ -24,13 +24,13 @@ use std::alloc::{AllocError, Global};
 /// How many levels parts and lists have in one another, where at most 100 things are open at once.
 const DEEPEST: u32 = 303;
 
-/// The script as a text. Where any text without here-documents and backquotes, with no substitution in the word of a redirection,
-/// and no redirection that ends in a backslash at its very end, spells the script, this text spells it too. Its time is linear in
-/// the text, and its calls are no more than 303 levels deep. A list that several parts name, which no script that is read has, is
-/// written for each of them. The error is want of memory.
+/// The script as a text. Where any text without here-documents and backquotes spells the script, this text spells it too. Its time
+/// is linear in the text, and its calls are no more than 303 levels deep, but for the words in one another of a redirection whose
+/// place is looked for. A list that several parts name, which no script that is read has, is written for each of them. The error
+/// is want of memory.
 pub fn spell(alloc: Global, script: &Script) -> Result<Text, AllocError>
     ensures written { IfOk result (λ text. text ≡ spec.script_text script.now) }
-    ensures spells { IfOk result (λ text. (tokens : List Token) (other : List ℕ) → Lexes mode.Command (source other []) tokens → Parses script.now tokens → ArePlain false tokens → Spells script.now text) }
+    ensures spells { IfOk result (λ text. (tokens : List Token) (other : List ℕ) → Lexes mode.Command (source other []) tokens → Parses script.now tokens → ArePlain tokens → Spells script.now text) }
 {
     let mut out = Back::new(alloc);
     write_list(alloc, script, DEEPEST, 0, &mut out)?;
