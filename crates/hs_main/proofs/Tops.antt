@@ -15,7 +15,8 @@ use Rattle.sh_leaf.specs.Built.{is_built}
 use Rattle.sh_syntax.specs.declared.fault.Fault.{Fault}
 use Rattle.hs_drive.specs.Ending.{IsTold}
 use Rattle.hs_outside.specs.Hosts.{one_more}
-use Rattle.hs_main.specs.Top.{AskNothing, Asks, IsAsked, start, default_turns, IsRefused, IsUnbuilt, Parsed, IsScriptOf, Finds, FilesOf, IsLoaded, IsRun, RunsWords, IsCompleteFor, no_report}
+use Rattle.hs_main.specs.Start.{Environ, default_turns, start}
+use Rattle.hs_main.specs.Top.{AskNothing, Asks, IsAsked, IsRefused, IsUnbuilt, Parsed, IsScriptOf, Finds, FilesOf, IsLoaded, IsRun, RunsWords, IsCompleteFor, no_report}
 use Rattle.hs_world.specs.World.{WorldData, Applied}
 use Rattle.sh_syntax.specs.declared.tree.Script.{Script}
 use Rattle.sh_grammar.specs.Spells.{Spells}
@@ -26,23 +27,23 @@ use Rattle.sh_script.specs.declared.error.ParseErr.TheVariants as err
 use Rattle.std.specs.Prelude.{codes, IfSome}
 
 -- a run never ends as unbuilt, by a syntax error, or by a fault of the host
-pub run-ran : (host out err : Type 0) (told : Option Files) (words : List (List ℕ)) (s t : Streams) (ends : Ending) (report : Report) →
-    IsRun out err told words s t ends report → RunsWords host out err told words s t ends report
-run-ran host out err told words s t (ending.Done status) report r = r
-run-ran host out err told words s t (ending.Syntax line fault) report r = absurd r.runs
-run-ran host out err told words s t ending.Unbuilt report r = absurd r.runs
-run-ran host out err told words s t ending.OutFault report r = r
-run-ran host out err told words s t ending.HostFault report r = absurd r.runs
-run-ran host out err told words s t (ending.Spent kind.Turns) report r = r
-run-ran host out err told words s t (ending.Spent kind.Bytes) report r = r
-run-ran host out err told words s t (ending.Spent kind.Frames) report r = r
-run-ran host out err told words s t (ending.Spent kind.Tree) report r = inr r
-run-ran host out err told words s t ending.NoMemory report r = inr r
+pub run-ran : (host out err : Type 0) (env : Environ) (told : Option Files) (words : List (List ℕ)) (s t : Streams) (ends : Ending) (report : Report) →
+    IsRun out err env told words s t ends report → RunsWords host out err env told words s t ends report
+run-ran host out err env told words s t (ending.Done status) report r = r
+run-ran host out err env told words s t (ending.Syntax line fault) report r = absurd r.runs
+run-ran host out err env told words s t ending.Unbuilt report r = absurd r.runs
+run-ran host out err env told words s t ending.OutFault report r = r
+run-ran host out err env told words s t ending.HostFault report r = absurd r.runs
+run-ran host out err env told words s t (ending.Spent kind.Turns) report r = r
+run-ran host out err env told words s t (ending.Spent kind.Bytes) report r = r
+run-ran host out err env told words s t (ending.Spent kind.Frames) report r = r
+run-ran host out err env told words s t (ending.Spent kind.Tree) report r = inr r
+run-ran host out err env told words s t ending.NoMemory report r = inr r
 
-pub run-of : (host out err : Type 0) (told : Option Files) (words : List (List ℕ)) (text text' : List ℕ) (s t : Streams) (ends : Ending) (report : Report) (script script' : Script) (w : WorldData) (files : Files) →
-    Asks words text → text' ≡ text → IsLoaded told files → IsScriptOf script text' × (is_built script ≡ true) → script' ≡ script → w ≡ start files → Runs out err script' w default_turns s t ends report →
-    RunsWords host out err told words s t ends report
-run-of host out err told words text text' s t ends report script script' w files asks same loaded (found, built) is from runs = run-ran host out err told words s t ends report (record {
+pub run-of : (host out err : Type 0) (env : Environ) (told : Option Files) (words : List (List ℕ)) (text text' : List ℕ) (s t : Streams) (ends : Ending) (report : Report) (script script' : Script) (w : WorldData) (files : Files) →
+    Asks words text → text' ≡ text → IsLoaded told files → IsScriptOf script text' × (is_built script ≡ true) → script' ≡ script → w ≡ start env files → Runs out err script' w default_turns s t ends report →
+    RunsWords host out err env told words s t ends report
+run-of host out err env told words text text' s t ends report script script' w files asks same loaded (found, built) is from runs = run-ran host out err env told words s t ends report (record {
   text = text';
   asks = subst (λ (x : List ℕ). Asks words x) (sym same) asks;
   files = files;
@@ -62,20 +63,20 @@ pub asked_never : (words : List (List ℕ)) (old : Option ℕ) → AskNothing wo
 asked_never words old none = record { once = λ text asks. absurd (none text asks); never = λ also. refl }
 
 -- files that can't be loaded
-pub unloaded-of : (host host' out err : Type 0) (told : Option Files) (words : List (List ℕ)) (text : List ℕ) (s : Streams) (ends : Ending) → (host → host') →
-    Asks words text → FilesOf host told (Err ends) → RunsWords host' out err told words s s ends no_report
-unloaded-of host host' out err told words text s (ending.Done status) f asks files = absurd files
-unloaded-of host host' out err told words text s (ending.Syntax line fault) f asks files = absurd files
-unloaded-of host host' out err told words text s ending.Unbuilt f asks files = absurd files
-unloaded-of host host' out err told words text s ending.OutFault f asks files = absurd files
-unloaded-of host host' out err told words text s ending.HostFault f asks files =
+pub unloaded-of : (host host' out err : Type 0) (env : Environ) (told : Option Files) (words : List (List ℕ)) (text : List ℕ) (s : Streams) (ends : Ending) → (host → host') →
+    Asks words text → FilesOf host told (Err ends) → RunsWords host' out err env told words s s ends no_report
+unloaded-of host host' out err env told words text s (ending.Done status) f asks files = absurd files
+unloaded-of host host' out err env told words text s (ending.Syntax line fault) f asks files = absurd files
+unloaded-of host host' out err env told words text s ending.Unbuilt f asks files = absurd files
+unloaded-of host host' out err env told words text s ending.OutFault f asks files = absurd files
+unloaded-of host host' out err env told words text s ending.HostFault f asks files =
     (record { text = text; asks = asks; rose = f files }, record { report_is = refl; streams = refl })
-unloaded-of host host' out err told words text s (ending.Spent kind.Turns) f asks files = absurd files
-unloaded-of host host' out err told words text s (ending.Spent kind.Bytes) f asks files = absurd files
-unloaded-of host host' out err told words text s (ending.Spent kind.Frames) f asks files = absurd files
-unloaded-of host host' out err told words text s (ending.Spent kind.Tree) f asks files =
+unloaded-of host host' out err env told words text s (ending.Spent kind.Turns) f asks files = absurd files
+unloaded-of host host' out err env told words text s (ending.Spent kind.Bytes) f asks files = absurd files
+unloaded-of host host' out err env told words text s (ending.Spent kind.Frames) f asks files = absurd files
+unloaded-of host host' out err env told words text s (ending.Spent kind.Tree) f asks files =
     inl (record { text = text; asks = asks; over = files }, record { report_is = refl; streams = refl })
-unloaded-of host host' out err told words text s ending.NoMemory f asks files = inl (record { report_is = refl; streams = refl })
+unloaded-of host host' out err env told words text s ending.NoMemory f asks files = inl (record { report_is = refl; streams = refl })
 
 -- ---- reading a text
 
@@ -106,22 +107,22 @@ pub unbuilt_of : (text : List ℕ) (script : Script) → IsScriptOf script text 
 unbuilt_of text script found unbuilt = record { script = script; found = found; unbuilt = unbuilt }
 
 -- a text that ends without a run
-pub unrun_of : (host out err : Type 0) (told : Option Files) (words : List (List ℕ)) (text text' : List ℕ) (s : Streams) (ends : Ending) (files : Files) →
-    Asks words text → text' ≡ text → IsLoaded told files → Finds (Err ends) text' → RunsWords host out err told words s s ends no_report
-unrun_of host out err told words text text' s (ending.Done status) files asks same loaded finds = absurd finds
-unrun_of host out err told words text text' s (ending.Syntax line fault) files asks same loaded finds =
+pub unrun_of : (host out err : Type 0) (env : Environ) (told : Option Files) (words : List (List ℕ)) (text text' : List ℕ) (s : Streams) (ends : Ending) (files : Files) →
+    Asks words text → text' ≡ text → IsLoaded told files → Finds (Err ends) text' → RunsWords host out err env told words s s ends no_report
+unrun_of host out err env told words text text' s (ending.Done status) files asks same loaded finds = absurd finds
+unrun_of host out err env told words text text' s (ending.Syntax line fault) files asks same loaded finds =
     (record { text = text'; asks = subst (λ (x : List ℕ). Asks words x) (sym same) asks; files = files; loaded = loaded; finds = finds }, record { report_is = refl; streams = refl })
-unrun_of host out err told words text text' s ending.Unbuilt files asks same loaded finds =
+unrun_of host out err env told words text text' s ending.Unbuilt files asks same loaded finds =
     (inr (record { text = text'; asks = subst (λ (x : List ℕ). Asks words x) (sym same) asks; files = files; loaded = loaded; finds = finds }), record { report_is = refl; streams = refl })
-unrun_of host out err told words text text' s ending.OutFault files asks same loaded finds = absurd finds
-unrun_of host out err told words text text' s ending.HostFault files asks same loaded finds = absurd finds
-unrun_of host out err told words text text' s (ending.Spent kind) files asks same loaded finds = absurd finds
-unrun_of host out err told words text text' s ending.NoMemory files asks same loaded finds = inl (record { report_is = refl; streams = refl })
+unrun_of host out err env told words text text' s ending.OutFault files asks same loaded finds = absurd finds
+unrun_of host out err env told words text text' s ending.HostFault files asks same loaded finds = absurd finds
+unrun_of host out err env told words text text' s (ending.Spent kind) files asks same loaded finds = absurd finds
+unrun_of host out err env told words text text' s ending.NoMemory files asks same loaded finds = inl (record { report_is = refl; streams = refl })
 
-pub unrun_told : (host out err : Type 0) (told : Option Files) (words : List (List ℕ)) (text text' : List ℕ) (s : Streams) (ends : Ending) (report : Report) (files : Files) →
-    Asks words text → text' ≡ text → IsLoaded told files → Finds (Err ends) text' → report ≡ no_report → RunsWords host out err told words s s ends report
-unrun_told host out err told words text text' s ends report files asks same loaded finds is =
-    subst (λ (r : Report). RunsWords host out err told words s s ends r) (sym is) (unrun_of host out err told words text text' s ends files asks same loaded finds)
+pub unrun_told : (host out err : Type 0) (env : Environ) (told : Option Files) (words : List (List ℕ)) (text text' : List ℕ) (s : Streams) (ends : Ending) (report : Report) (files : Files) →
+    Asks words text → text' ≡ text → IsLoaded told files → Finds (Err ends) text' → report ≡ no_report → RunsWords host out err env told words s s ends report
+unrun_told host out err env told words text text' s ends report files asks same loaded finds is =
+    subst (λ (r : Report). RunsWords host out err env told words s s ends r) (sym is) (unrun_of host out err env told words text text' s ends files asks same loaded finds)
 
 one-text : (a b c : List ℕ) → a ∷ b ∷ [] ≡ a ∷ c ∷ [] → b ≡ c
 one-text a b c e = cc
@@ -160,9 +161,9 @@ runs-later out err err' script w turns s t ending.OutFault report f (done, stopp
     later (inl x) = inl x
     later (inr (e, d)) = inr (f e, d)
 
-run-later : (out err err' : Type 0) (told : Option Files) (words : List (List ℕ)) (s t : Streams) (ends : Ending) (report : Report) → (err → err') →
-    IsRun out err told words s t ends report → IsRun out err' told words s t ends report
-run-later out err err' told words s t ends report f r = record {
+run-later : (out err err' : Type 0) (env : Environ) (told : Option Files) (words : List (List ℕ)) (s t : Streams) (ends : Ending) (report : Report) → (err → err') →
+    IsRun out err env told words s t ends report → IsRun out err' env told words s t ends report
+run-later out err err' env told words s t ends report f r = record {
   text = r.text;
   asks = r.asks;
   files = r.files;
@@ -170,23 +171,23 @@ run-later out err err' told words s t ends report f r = record {
   script = r.script;
   found = r.found;
   built = r.built;
-  runs = runs-later out err err' r.script (start r.files) default_turns s t ends report f r.runs;
+  runs = runs-later out err err' r.script (start env r.files) default_turns s t ends report f r.runs;
 }
 
-pub words-later : (host out err err' : Type 0) (told : Option Files) (words : List (List ℕ)) (s t : Streams) (ends : Ending) (report : Report) → (err → err') →
-    RunsWords host out err told words s t ends report → RunsWords host out err' told words s t ends report
-words-later host out err err' told words s t (ending.Done status) report f r = run-later out err err' told words s t (ending.Done status) report f r
-words-later host out err err' told words s t (ending.Syntax line fault) report f r = r
-words-later host out err err' told words s t ending.Unbuilt report f r = r
-words-later host out err err' told words s t ending.HostFault report f r = r
-words-later host out err err' told words s t (ending.Spent kind.Turns) report f r = run-later out err err' told words s t (ending.Spent kind.Turns) report f r
-words-later host out err err' told words s t (ending.Spent kind.Bytes) report f r = run-later out err err' told words s t (ending.Spent kind.Bytes) report f r
-words-later host out err err' told words s t (ending.Spent kind.Frames) report f r = run-later out err err' told words s t (ending.Spent kind.Frames) report f r
-words-later host out err err' told words s t (ending.Spent kind.Tree) report f (inl r) = inl r
-words-later host out err err' told words s t (ending.Spent kind.Tree) report f (inr r) = inr (run-later out err err' told words s t (ending.Spent kind.Tree) report f r)
-words-later host out err err' told words s t ending.OutFault report f r = run-later out err err' told words s t ending.OutFault report f r
-words-later host out err err' told words s t ending.NoMemory report f (inl r) = inl r
-words-later host out err err' told words s t ending.NoMemory report f (inr r) = inr (run-later out err err' told words s t ending.NoMemory report f r)
+pub words-later : (host out err err' : Type 0) (env : Environ) (told : Option Files) (words : List (List ℕ)) (s t : Streams) (ends : Ending) (report : Report) → (err → err') →
+    RunsWords host out err env told words s t ends report → RunsWords host out err' env told words s t ends report
+words-later host out err err' env told words s t (ending.Done status) report f r = run-later out err err' env told words s t (ending.Done status) report f r
+words-later host out err err' env told words s t (ending.Syntax line fault) report f r = r
+words-later host out err err' env told words s t ending.Unbuilt report f r = r
+words-later host out err err' env told words s t ending.HostFault report f r = r
+words-later host out err err' env told words s t (ending.Spent kind.Turns) report f r = run-later out err err' env told words s t (ending.Spent kind.Turns) report f r
+words-later host out err err' env told words s t (ending.Spent kind.Bytes) report f r = run-later out err err' env told words s t (ending.Spent kind.Bytes) report f r
+words-later host out err err' env told words s t (ending.Spent kind.Frames) report f r = run-later out err err' env told words s t (ending.Spent kind.Frames) report f r
+words-later host out err err' env told words s t (ending.Spent kind.Tree) report f (inl r) = inl r
+words-later host out err err' env told words s t (ending.Spent kind.Tree) report f (inr r) = inr (run-later out err err' env told words s t (ending.Spent kind.Tree) report f r)
+words-later host out err err' env told words s t ending.OutFault report f r = run-later out err err' env told words s t ending.OutFault report f r
+words-later host out err err' env told words s t ending.NoMemory report f (inl r) = inl r
+words-later host out err err' env told words s t ending.NoMemory report f (inr r) = inr (run-later out err err' env told words s t ending.NoMemory report f r)
 
 -- ---- two words
 
@@ -206,13 +207,13 @@ told-is : (told : Option Files) (a b : Files) → IfSome told (λ f. a ≡ f) �
 told-is None a b is e = absurd cc
 told-is (Some f) a b is e = let same : f ≡ b = cc in is ∙ same
 
-run-complete : (host out err : Type 0) (told : Option Files) (words : List (List ℕ)) (s t : Streams) (ends : Ending) (report : Report) → IsRun out err told words s t ends report →
-    IsCompleteFor host out err told words ends
-run-complete host out err told words s t ends report r text script files asks found built is within no-host =
+run-complete : (host out err : Type 0) (env : Environ) (told : Option Files) (words : List (List ℕ)) (s t : Streams) (ends : Ending) (report : Report) → IsRun out err env told words s t ends report →
+    IsCompleteFor host out err env told words ends
+run-complete host out err env told words s t ends report r text script files asks found built is within no-host =
     let same : r.script ≡ script = found.is.only r.script (subst (λ (x : List ℕ). Spells r.script x) (sym (one-asked words text r.text asks r.asks)) r.found.is.spelled) in
     let over : r.files ≡ files = told-is told r.files files r.loaded.is is in
-    subst (λ (f : Files). IsComplete out err (Serial script (start f) default_turns []) ends) over
-    (subst (λ (x : Script). IsComplete out err (Serial x (start r.files) default_turns []) ends) same (plain-complete out err r.script (start r.files) default_turns s t ends report r.runs))
+    subst (λ (f : Files). IsComplete out err (Serial script (start env f) default_turns []) ends) over
+    (subst (λ (x : Script). IsComplete out err (Serial x (start env r.files) default_turns []) ends) same (plain-complete out err r.script (start env r.files) default_turns s t ends report r.runs))
 
 -- files within the limit do not pass it
 within-over : (told : Option Files) (files : Files) → IfSome told (λ f. is_over f ≡ true) → told ≡ Some files → is_over files ≡ false → ⊥
@@ -223,22 +224,22 @@ refused-spells_none : (text : List ℕ) (line : ℕ) (fault : Fault) (script : S
 refused-spells_none text line fault script (inl (long, e, f)) found = absurd (omega (arith, long, found.short))
 refused-spells_none text line fault script (inr (short, bad)) found = bad.none script found.is.spelled
 
-pub words-complete : (host out err : Type 0) (told : Option Files) (words : List (List ℕ)) (s t : Streams) (ends : Ending) (report : Report) →
-    RunsWords host out err told words s t ends report → IsCompleteFor host out err told words ends
-words-complete host out err told words s t (ending.Done status) report r = run-complete host out err told words s t (ending.Done status) report r
-words-complete host out err told words s t (ending.Spent kind.Turns) report r = run-complete host out err told words s t (ending.Spent kind.Turns) report r
-words-complete host out err told words s t (ending.Spent kind.Bytes) report r = run-complete host out err told words s t (ending.Spent kind.Bytes) report r
-words-complete host out err told words s t (ending.Spent kind.Frames) report r = run-complete host out err told words s t (ending.Spent kind.Frames) report r
-words-complete host out err told words s t (ending.Spent kind.Tree) report (inl (r, u)) = λ text script files asks found built is within no-host.
+pub words-complete : (host out err : Type 0) (env : Environ) (told : Option Files) (words : List (List ℕ)) (s t : Streams) (ends : Ending) (report : Report) →
+    RunsWords host out err env told words s t ends report → IsCompleteFor host out err env told words ends
+words-complete host out err env told words s t (ending.Done status) report r = run-complete host out err env told words s t (ending.Done status) report r
+words-complete host out err env told words s t (ending.Spent kind.Turns) report r = run-complete host out err env told words s t (ending.Spent kind.Turns) report r
+words-complete host out err env told words s t (ending.Spent kind.Bytes) report r = run-complete host out err env told words s t (ending.Spent kind.Bytes) report r
+words-complete host out err env told words s t (ending.Spent kind.Frames) report r = run-complete host out err env told words s t (ending.Spent kind.Frames) report r
+words-complete host out err env told words s t (ending.Spent kind.Tree) report (inl (r, u)) = λ text script files asks found built is within no-host.
     absurd (within-over told files r.over is within)
-words-complete host out err told words s t (ending.Spent kind.Tree) report (inr r) = run-complete host out err told words s t (ending.Spent kind.Tree) report r
-words-complete host out err told words s t ending.OutFault report r = run-complete host out err told words s t ending.OutFault report r
-words-complete host out err told words s t ending.HostFault report (r, u) = λ text script files asks found built is within no-host. absurd (no-host r.rose)
-words-complete host out err told words s t (ending.Syntax line fault) report (e, u) = λ text script files asks found built is within no-host.
+words-complete host out err env told words s t (ending.Spent kind.Tree) report (inr r) = run-complete host out err env told words s t (ending.Spent kind.Tree) report r
+words-complete host out err env told words s t ending.OutFault report r = run-complete host out err env told words s t ending.OutFault report r
+words-complete host out err env told words s t ending.HostFault report (r, u) = λ text script files asks found built is within no-host. absurd (no-host r.rose)
+words-complete host out err env told words s t (ending.Syntax line fault) report (e, u) = λ text script files asks found built is within no-host.
     absurd (refused-spells_none text line fault script (subst (λ (x : List ℕ). IsRefused x line fault) (one-asked words e.text text e.asks asks) e.finds) found)
-words-complete host out err told words s t ending.Unbuilt report (inl none, u) = λ text script files asks found built is within no-host. absurd (none text asks)
-words-complete host out err told words s t ending.Unbuilt report (inr e, none) = λ text script files asks found built is within no-host.
+words-complete host out err env told words s t ending.Unbuilt report (inl none, u) = λ text script files asks found built is within no-host. absurd (none text asks)
+words-complete host out err env told words s t ending.Unbuilt report (inr e, none) = λ text script files asks found built is within no-host.
     let u : IsUnbuilt text = subst IsUnbuilt (one-asked words e.text text e.asks asks) e.finds in
     let same : u.script ≡ script = found.is.only u.script u.found.is.spelled in
     absurd (subst T (sym (ap is_built same) ∙ u.unbuilt) (subst T (sym built) tt))
-words-complete host out err told words s t ending.NoMemory report r = λ text script files asks found built is within no-host status e no-out no-err. inr refl
+words-complete host out err env told words s t ending.NoMemory report r = λ text script files asks found built is within no-host status e no-out no-err. inr refl

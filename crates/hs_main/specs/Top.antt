@@ -2,7 +2,6 @@
 use Rattle.std.specs.Prelude.{◌≡◌, ◌⊎◌, ℕ, ◌≤◌, List, [], ◌∷◌, ◌<◌, false, true, Option, Some, Result, Ok, Err, IfSome, length, codes}
 use Rattle.hs_outside.specs.Hosts.{one_more}
 use Rattle.hs_world.specs.Files.{Files, is_over}
-use Rattle.hs_world.specs.World.{WorldData, new_world}
 use Rattle.sh_syntax.specs.declared.tree.Script.{Script}
 use Rattle.sh_script.specs.Answers.{IsScript, IsBad}
 use Rattle.sh_script.specs.Longest.{longest}
@@ -17,6 +16,7 @@ use Rattle.hs_drive.specs.declared.ending.Report.{Report}
 use Rattle.hs_drive.specs.Ending.{line_of, IsTold}
 use Rattle.hs_drive.specs.Commit.{Streams}
 use Rattle.hs_view.specs.declared.halt.SpentKind.TheVariants.{Tree}
+use Rattle.hs_main.specs.Start.{Environ, default_turns, start}
 use Rattle.sh_leaf.specs.Cut.{Serial}
 use Rattle.hs_drive.specs.Plain.{Runs, IsComplete}
 
@@ -54,14 +54,7 @@ Finds (Err ending.Unbuilt) text = IsUnbuilt text
 Finds (Err ending.NoMemory) text = Unit {0}
 Finds (Err _) text = ⊥
 
--- ---- where a run begins
-
-abbrev pub default_turns : ℕ
-default_turns = 1000000
-
--- over the loaded files
-abbrev pub start : Files → WorldData
-start files = new_world files [] (codes "hs") [] [] (record { bytes = 16777216; turns = default_turns })
+-- ---- the files
 
 -- These are the host's files, where it tells them, and they are within the limit of a tree.
 pub record IsLoaded (told : Option Files) (files : Files) : Type 0 where
@@ -91,7 +84,7 @@ pub record IsUnrun (report : Report) (old new : Streams) : Type 0 where
   pub streams : new ≡ old
 
 -- The words hand over a script, which ran over the loaded files.
-pub record IsRun (out err : Type 0) (told : Option Files) (words : List (List ℕ)) (old new : Streams) (ends : Ending) (report : Report) : Type 0 where
+pub record IsRun (out err : Type 0) (env : Environ) (told : Option Files) (words : List (List ℕ)) (old new : Streams) (ends : Ending) (report : Report) : Type 0 where
   pub text : List ℕ
   pub asks : Asks words text
   pub files : Files
@@ -99,7 +92,7 @@ pub record IsRun (out err : Type 0) (told : Option Files) (words : List (List �
   pub script : Script
   pub found : IsScriptOf script text
   pub built : is_built script ≡ true
-  pub runs : Runs out err script (start files) default_turns old new ends report
+  pub runs : Runs out err script (start env files) default_turns old new ends report
 
 -- The words hand over a text, which ends without a run once the files were loaded.
 pub record IsEnded (told : Option Files) (words : List (List ℕ)) (ends : Ending) : Type 0 where
@@ -132,22 +125,22 @@ pub record IsFailed (host : Type 0) (words : List (List ℕ)) : Type 0 where
 
 -- What the words come to: they hand over no text, or one for which the files can't be loaded, or one that ends without a run, or a
 -- script that runs. `host`, `out` and `err` say that the counts of faults rose.
-abbrev pub RunsWords : (host out err : Type 0) → Option Files → List (List ℕ) → Streams → Streams → Ending → Report → Type 0
-RunsWords host out err told words old new ending.Unbuilt report = (AskNothing words ⊎ IsEnded told words ending.Unbuilt) × IsUnrun report old new
-RunsWords host out err told words old new (ending.Syntax line fault) report = IsEnded told words (ending.Syntax line fault) × IsUnrun report old new
-RunsWords host out err told words old new ending.HostFault report = IsFailed host words × IsUnrun report old new
-RunsWords host out err told words old new (ending.Spent Tree) report =
-    (IsTooLarge told words × IsUnrun report old new) ⊎ IsRun out err told words old new (ending.Spent Tree) report
-RunsWords host out err told words old new ending.NoMemory report = IsUnrun report old new ⊎ IsRun out err told words old new ending.NoMemory report
-RunsWords host out err told words old new ends report = IsRun out err told words old new ends report
+abbrev pub RunsWords : (host out err : Type 0) → Environ → Option Files → List (List ℕ) → Streams → Streams → Ending → Report → Type 0
+RunsWords host out err env told words old new ending.Unbuilt report = (AskNothing words ⊎ IsEnded told words ending.Unbuilt) × IsUnrun report old new
+RunsWords host out err env told words old new (ending.Syntax line fault) report = IsEnded told words (ending.Syntax line fault) × IsUnrun report old new
+RunsWords host out err env told words old new ending.HostFault report = IsFailed host words × IsUnrun report old new
+RunsWords host out err env told words old new (ending.Spent Tree) report =
+    (IsTooLarge told words × IsUnrun report old new) ⊎ IsRun out err env told words old new (ending.Spent Tree) report
+RunsWords host out err env told words old new ending.NoMemory report = IsUnrun report old new ⊎ IsRun out err env told words old new ending.NoMemory report
+RunsWords host out err env told words old new ends report = IsRun out err env told words old new ends report
 
 -- Then the line that says how it ended is tried on standard error.
-pub record Tops (host out err : Type 0) (told : Option Files) (words : List (List ℕ)) (old new : Streams) (ends : Ending) (report : Report) : Type 0 where
+pub record Tops (host out err : Type 0) (env : Environ) (told : Option Files) (words : List (List ℕ)) (old new : Streams) (ends : Ending) (report : Report) : Type 0 where
   pub ran : Streams
-  pub runs : RunsWords host out err told words old ran ends report
+  pub runs : RunsWords host out err env told words old ran ends report
   pub line : IsLine (line_of ends) ran new
 
 -- Where the words hand over a script that is built, and the host tells files within the limit and does not fail, its run is complete.
-abbrev pub IsCompleteFor : (host out err : Type 0) → Option Files → List (List ℕ) → Ending → Type 0
-IsCompleteFor host out err told words ends = (text : List ℕ) (script : Script) (files : Files) → Asks words text → IsScriptOf script text → is_built script ≡ true →
-    told ≡ Some files → is_over files ≡ false → (host → ⊥) → IsComplete out err (Serial script (start files) default_turns []) ends
+abbrev pub IsCompleteFor : (host out err : Type 0) → Environ → Option Files → List (List ℕ) → Ending → Type 0
+IsCompleteFor host out err env told words ends = (text : List ℕ) (script : Script) (files : Files) → Asks words text → IsScriptOf script text → is_built script ≡ true →
+    told ≡ Some files → is_over files ≡ false → (host → ⊥) → IsComplete out err (Serial script (start env files) default_turns []) ends

@@ -1,12 +1,15 @@
 //! The shell hS: runs a script that is handed over with `-c`.
 #![tactic(auto)]
 
+mod environ;
 mod gate;
 mod stream;
 #[cfg(test)]
 mod tests;
 mod top;
+mod variables;
 
+use environ::environ;
 use gate::NoGate;
 use hs_outside::MemoryHost;
 use hs_text::Text;
@@ -57,6 +60,10 @@ fn main(rt: HostRuntime) -> ExitCode {
             return ExitCode::from(2);
         }
     };
+    let Ok(env) = environ(rt.alloc(), &rt) else {
+        let _ = rt.eprintln("hs: out of memory");
+        return ExitCode::from(125);
+    };
     let Ok(mut host) = MemoryHost::new(Tree::new(rt.alloc()), Vec::new(rt.alloc())) else {
         let _ = rt.eprintln("hs: out of memory");
         return ExitCode::from(125);
@@ -64,7 +71,7 @@ fn main(rt: HostRuntime) -> ExitCode {
     let answer = top(
         rt.alloc(),
         &words,
-        &[],
+        &env,
         &mut host,
         &mut StreamSource::new(rt.stdin().lock()),
         &mut StreamSink::new(rt.stdout()),

@@ -28,28 +28,33 @@ struct Shown {
     answer: Answer,
 }
 
-/// Runs the program with these words over these.
+/// Runs the program with these words over these, in an empty environment.
 fn run_on(
     alloc: Global,
     words: &[&[u8]],
     host: &mut MemoryHost,
-    mut out: MemorySink,
-    mut err: MemorySink,
+    out: MemorySink,
+    err: MemorySink,
 ) -> Result<Shown, AllocError> {
+    run_in(alloc, words, &[], host, (out, err))
+}
+
+/// Runs the program with these words in this environment.
+fn run_in(
+    alloc: Global,
+    words: &[&[u8]],
+    env: &[(Text, Text)],
+    host: &mut MemoryHost,
+    sinks: (MemorySink, MemorySink),
+) -> Result<Shown, AllocError> {
+    let (mut out, mut err) = sinks;
     let mut texts = Vec::new(alloc);
     for word in words {
         texts.push(Text::from_slice(alloc, word)?)?;
     }
     let mut input = MemorySource::new(Text::new(alloc), 1, Vec::new(alloc))?;
     let answer = top(
-        alloc,
-        &texts,
-        &[],
-        host,
-        &mut input,
-        &mut out,
-        &mut err,
-        &NoGate,
+        alloc, &texts, env, host, &mut input, &mut out, &mut err, &NoGate,
     );
     Ok(Shown { out, err, answer })
 }

@@ -6,9 +6,11 @@ ghost use Rattle.hs_outside.specs.Hosts.{one_more};
 ghost use Rattle.hs_world.specs.Files.{is_over};
 ghost use Rattle.hs_drive.specs.Ending.{IsTold, line_of, status_of, syntax_line_of};
 ghost use Rattle.hs_drive.specs.Commit.{Streams};
-ghost use Rattle.hs_main.specs.Top.{Asks, FilesOf, Finds, IsAsked, IsCompleteFor, Parsed, RunsWords, Tops, no_report, start};
+ghost use Rattle.hs_main.specs.Start.{start};
+ghost use Rattle.hs_main.specs.Top.{Asks, FilesOf, Finds, IsAsked, IsCompleteFor, Parsed, RunsWords, Tops, no_report};
 
 use crate::gate::Gate;
+use crate::variables::first_vars;
 use hs_drive::{Ending, Report, plain, syntax_line};
 use hs_outside::{Host, HostErr, Sink, Source, send};
 use hs_text::{Text, TextList};
@@ -34,21 +36,15 @@ const LIMITS: Limits = Limits {
     turns: 1_000_000,
 };
 
-/// The state in which a script begins over these files: no variable, and no parameter but `$0`.
-fn start(alloc: Global, tree: Tree) -> Result<World, AllocError>
+/// The state in which a script begins over these files, with the variables of this environment.
+fn start(alloc: Global, env: &[(Text, Text)], tree: Tree) -> Result<World, AllocError>
     requires within { is_over tree ≡ false }
-    ensures { IfOk result (λ world. world ≡ start tree) }
+    ensures { IfOk result (λ world. world ≡ start env.now tree) }
 {
+    let vars = first_vars(alloc, env)?;
     let zero = Text::from_slice(alloc, b"hs")?;
-    match World::new(
-        alloc,
-        tree,
-        Vec::new(alloc),
-        zero,
-        TextList::new(alloc),
-        Text::new(alloc),
-        LIMITS,
-    ) {
+    let (params, input) = (TextList::new(alloc), Text::new(alloc));
+    match World::new(alloc, tree, vars, zero, params, input, LIMITS) {
         Ok(world) => Ok(world),
         Err(WorldErr::NoMemory) => Err(AllocError),
         Err(WorldErr::Full(_)) => unreachable!(),
@@ -125,11 +121,12 @@ fn loaded<H: Host>(alloc: Global, host: &mut H) -> Result<Tree, Ending>
 fn run_words<H: Host, O: Sink, E: Sink>(
     alloc: Global,
     words: &[Text],
+    env: &[(Text, Text)],
     host: &mut H,
     out: &mut O,
     err: &mut E,
 ) -> (Ending, Report)
-    ensures runs { RunsWords (Rose (H.faults host.old) (H.faults host.new)) (Rose (O.faults out.old) (O.faults out.new)) (Rose (E.faults err.old) (E.faults err.new)) (H.files host.old) words.now
+    ensures runs { RunsWords (Rose (H.faults host.old) (H.faults host.new)) (Rose (O.faults out.old) (O.faults out.new)) (Rose (E.faults err.old) (E.faults err.new)) env.now (H.files host.old) words.now
         (record { out = O.written out.old; err = E.written err.old }) (record { out = O.written out.new; err = E.written err.new }) result.0 result.1 }
     ensures files { H.files host.new ≡ H.files host.old }
     ensures asked { IsAsked words.now (H.calls host.old) (H.calls host.new) }
@@ -151,7 +148,7 @@ fn run_words<H: Host, O: Sink, E: Sink>(
     let Ok(script) = Arc::new(alloc, script) else {
         return (Ending::NoMemory, no_report());
     };
-    let Ok(world) = start(alloc, tree) else {
+    let Ok(world) = start(alloc, env, tree) else {
         return (Ending::NoMemory, no_report());
     };
     plain(alloc, script, world, LIMITS, host, out, err)
@@ -180,8 +177,8 @@ fn tell_syntax<E: Sink>(alloc: Global, err: &mut E, line: u32)
 }
 
 /// All that the program does: reads the words, loads the host's files, once and only where there is a script, runs the script over them and the two sinks, and says
-/// on standard error how the run ended, where it was not at the script's own end. The environment, the input and the gate
-/// are not asked yet.
+/// on standard error how the run ended, where it was not at the script's own end. The script finds the environment as exported
+/// variables, but for entries whose names are no names of variables. The input and the gate are not asked yet.
 pub fn top<H: Host, I: Source, O: Sink, E: Sink, G: Gate>(
     alloc: Global,
     words: &[Text],
@@ -192,17 +189,16 @@ pub fn top<H: Host, I: Source, O: Sink, E: Sink, G: Gate>(
     err: &mut E,
     gate: &G,
 ) -> Answer
-    ensures tops { Tops (Rose (H.faults host.old) (H.faults host.new)) (Rose (O.faults out.old) (O.faults out.new)) (Rose (E.faults err.old) (E.faults err.new)) (H.files host.old) words.now
+    ensures tops { Tops (Rose (H.faults host.old) (H.faults host.new)) (Rose (O.faults out.old) (O.faults out.new)) (Rose (E.faults err.old) (E.faults err.new)) env.now (H.files host.old) words.now
         (record { out = O.written out.old; err = E.written err.old }) (record { out = O.written out.new; err = E.written err.new }) result.ending result.report }
-    ensures complete { IsCompleteFor (Rose (H.faults host.old) (H.faults host.new)) (Rose (O.faults out.old) (O.faults out.new)) (Rose (E.faults err.old) (E.faults err.new)) (H.files host.old) words.now result.ending }
+    ensures complete { IsCompleteFor (Rose (H.faults host.old) (H.faults host.new)) (Rose (O.faults out.old) (O.faults out.new)) (Rose (E.faults err.old) (E.faults err.new)) env.now (H.files host.old) words.now result.ending }
     ensures status { result.status ≡ status_of result.ending }
     ensures files { H.files host.new ≡ H.files host.old }
     ensures asked { IsAsked words.now (H.calls host.old) (H.calls host.new) }
 {
-    let _ = env.len();
     let _ = input;
     let _ = gate;
-    let (ending, report) = run_words(alloc, words, host, out, err);
+    let (ending, report) = run_words(alloc, words, env, host, out, err);
     tell(alloc, err, ending);
     Answer {
         status: ending.status(),

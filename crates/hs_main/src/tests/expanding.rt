@@ -1,6 +1,6 @@
 //! Scripts with expansions and assignments.
 
-use super::{first_world, put_entry, run_plain, writes};
+use super::{first_world, put_entry, run_in, run_plain, sinks, writes};
 use hs_drive::Ending;
 use hs_outside::{MemoryHost, MemorySink};
 use hs_text::Text;
@@ -158,5 +158,50 @@ fn long_texts_are_spent(rt: HostRuntime) -> Result<(), Fail> {
     assert_eq!(rt; ending, Ending::Spent(SpentKind::Bytes));
     assert_eq!(rt; report.count, 0);
     assert!(rt; out.written().is_empty());
+    Ok(())
+}
+
+/// Names with their values.
+fn environ(alloc: Global, entries: &[(&str, &str)]) -> Result<Vec<(Text, Text)>, AllocError> {
+    let mut env = Vec::new(alloc);
+    for (name, value) in entries {
+        let name = Text::from_slice(alloc, name.as_bytes())?;
+        env.push((name, Text::from_slice(alloc, value.as_bytes())?))?;
+    }
+    Ok(env)
+}
+
+/// What a script writes in this environment.
+fn written(
+    alloc: Global,
+    entries: &[(&str, &str)],
+    script: &[u8],
+) -> Result<MemorySink, AllocError> {
+    let env = environ(alloc, entries)?;
+    let Ok(mut host) = MemoryHost::new(Tree::new(alloc), Vec::new(alloc)) else {
+        return Err(AllocError);
+    };
+    let shown = run_in(alloc, &[b"-c", script], &env, &mut host, sinks(alloc)?)?;
+    Ok(shown.out)
+}
+
+/// The first entry of a name counts, names that are none of a variable are dropped, and IFS and PWD are the program's own.
+#[test]
+fn the_environment_is_found(rt: HostRuntime) -> Result<(), Fail> {
+    let entries = [
+        ("HOME", "/h"),
+        ("x", "a b"),
+        ("x", "c"),
+        ("IFS", "b"),
+        ("PWD", "/p"),
+        ("a-b", "d"),
+        ("1", "e"),
+    ];
+    let out = written(
+        rt.alloc(),
+        &entries,
+        b"echo ~ $x \"${#IFS}\" $PWD ${1-none} ${a-b}",
+    )?;
+    assert!(rt; out.written() == b"/h a b 3 / none b\n".as_slice());
     Ok(())
 }
